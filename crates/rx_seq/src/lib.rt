@@ -1,0 +1,13 @@
+//! The sequential objects that tasks share: cells, queues, ordered lists and registers, their calls and replies,
+//! and the entries of a history of calls. The table of what each call does is `specs/Table.antt`.
+#![tactic(auto)]
+
+mod calls;
+mod entries;
+mod kinds;
+mod replies;
+
+pub use calls::{Call, Row};
+pub use entries::Entry;
+pub use kinds::{Kind, Part};
+pub use replies::Reply;

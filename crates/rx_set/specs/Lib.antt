@@ -1,0 +1,5 @@
+pub mod Names
+pub mod System
+pub mod Valid
+pub mod View
+pub mod Ranked

@@ -1,0 +1,131 @@
+-- A system of tasks and objects, as clauses see it: releases, deadlines, ranks, keys, demands and costs.
+use Rattle.std.specs.Prelude.{ℕ, zero, suc, ◌+◌, ◌-◌, ◌*◌, ◌==◌, ◌&&◌, ◌||◌, nat_lt, Bool, true, false, if◌then◌else◌, List, [], ◌∷◌, ◌++◌, length, get_or, slice_get, count_by, sum_by, map, Option, Some, None}
+use Rattle.rx_seq.specs.declared.kinds.Kind.{Kind}
+use Rattle.rx_seq.specs.declared.kinds.Kind.TheVariants.{Cell, Queue, Registers, List as Ordered}
+use Rattle.rx_seq.specs.declared.kinds.Part.{Part}
+use Rattle.rx_seq.specs.History.{part_at}
+use Rattle.rx_set.specs.declared.policies.Policy.{Policy}
+use Rattle.rx_set.specs.declared.policies.Policy.TheVariants.{Rm, Dm, Edf}
+use Rattle.rx_set.specs.declared.items.Item.{Item}
+use Rattle.rx_set.specs.declared.items.Item.TheVariants.{Work, Op}
+use Rattle.rx_set.specs.declared.jobs.Job.{Job}
+use Rattle.rx_set.specs.declared.jobs.Key.{Key}
+
+-- an object, a task and a demand row, without where they lie in memory
+pub record ObjectRow : Type 0 where
+  pub name : List ℕ
+  pub part : Part
+
+pub record TaskRow : Type 0 where
+  pub name : List ℕ
+  pub period : ℕ
+  pub deadline : ℕ
+  pub offset : ℕ
+  pub items : List Item
+
+-- the job of this number of this task needs so many ticks for this work item, which is named by its number from 1
+pub record DemandRow : Type 0 where
+  pub task : ℕ
+  pub job : ℕ
+  pub item : ℕ
+  pub ticks : ℕ
+
+-- the policy, and the objects, the tasks and the demand rows in file order
+pub record System : Type 0 where
+  pub policy : Policy
+  pub objects : List ObjectRow
+  pub tasks : List TaskRow
+  pub demands : List DemandRow
+
+abbrev pub no_task : TaskRow
+no_task = record { name = []; period = 0; deadline = 0; offset = 0; items = [] }
+
+abbrev pub task_at : System → ℕ → TaskRow
+task_at system task = get_or system.tasks task no_task
+
+-- the task of a job
+abbrev pub task_of : System → Job → TaskRow
+task_of system job = task_at system job.task
+
+abbrev pub part_of_row : ObjectRow → Part
+part_of_row row = row.part
+
+-- the parts of the objects
+abbrev pub parts_of : System → List Part
+parts_of system = map part_of_row system.objects
+
+-- the numbers 0 to n - 1
+abbrev pub numbers : ℕ → List ℕ
+numbers zero = []
+numbers (suc n) = numbers n ++ n ∷ []
+
+-- when a job is released, and when it is due
+abbrev pub release : System → Job → ℕ
+release system job = (task_of system job).offset + (job.number - 1) * (task_of system job).period
+
+abbrev pub due : System → Job → ℕ
+due system job = release system job + (task_of system job).deadline
+
+-- what puts tasks in order: periods, deadlines, or the place in the file alone
+abbrev pub span : Policy → TaskRow → ℕ
+span Rm task = task.period
+span Dm task = task.deadline
+span Edf task = 0
+
+-- a task comes before another if its span is shorter; ties go by file order
+abbrev pub comes_before : ℕ → ℕ → ℕ → ℕ → Bool
+comes_before span_a a span_b b = nat_lt span_a span_b || ((span_a == span_b) && nat_lt a b)
+
+abbrev pub is_ahead : System → ℕ → ℕ → Bool
+is_ahead system task other = comes_before (span system.policy (task_at system other)) other (span system.policy (task_at system task)) task
+
+-- the rank of a task is its place in that order, from 1
+abbrev pub rank : System → ℕ → ℕ
+rank system task = count_by (is_ahead system task) (numbers (length system.tasks)) + 1
+
+-- the key of a job: its rank and its number, or its deadline, its task and its number
+abbrev pub key_by : Policy → System → Job → Key
+key_by Rm system job = record { first = rank system job.task; second = 0; third = job.number }
+key_by Dm system job = record { first = rank system job.task; second = 0; third = job.number }
+key_by Edf system job = record { first = due system job; second = job.task; third = job.number }
+
+abbrev pub key : System → Job → Key
+key system job = key_by system.policy system job
+
+-- the first key is lower
+abbrev pub is_below : Key → Key → Bool
+is_below a b = nat_lt a.first b.first || ((a.first == b.first) && (nat_lt a.second b.second || ((a.second == b.second) && nat_lt a.third b.third)))
+
+-- the stated ticks, or those of the row that names this item of this job
+abbrev pub ticks_of : List DemandRow → Job → ℕ → ℕ → ℕ
+ticks_of [] job item stated = stated
+ticks_of (row ∷ rows) job item stated =
+    if (row.task == job.task) && (row.job == job.number) && (row.item == item) then row.ticks else ticks_of rows job item stated
+
+abbrev pub demanded : List DemandRow → Job → ℕ → Option Item → Option Item
+demanded rows job number (Some (Work ticks)) = Some (Work (ticks_of rows job number ticks))
+demanded rows job number (Some (Op object call)) = Some (Op object call)
+demanded rows job number None = None
+
+-- the item of a job at a place from 0: that of its task, with the ticks that this job demands
+abbrev pub item_at : System → Job → ℕ → Option Item
+item_at system job place = demanded system.demands job (place + 1) (slice_get (task_of system job).items place)
+
+-- the ticks of one attempt on an object
+abbrev pub attempt_by : Kind → ℕ → ℕ
+attempt_by Cell cap = 2
+attempt_by Queue cap = 2 * cap + 6
+attempt_by Ordered cap = 2 * cap + 6
+attempt_by Registers cap = 2 * cap + 6
+
+abbrev pub attempt_cost : System → ℕ → ℕ
+attempt_cost system object = attempt_by (part_at (parts_of system) object).kind (part_at (parts_of system) object).cap
+
+-- the stated cost of an item: the ticks of work, or of one attempt
+abbrev pub item_cost : System → Item → ℕ
+item_cost system (Work ticks) = ticks
+item_cost system (Op object call) = attempt_cost system object
+
+-- the stated cost of a task is the sum of its items' costs
+abbrev pub cost : System → ℕ → ℕ
+cost system task = sum_by (item_cost system) (task_at system task).items

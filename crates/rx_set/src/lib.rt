@@ -1,0 +1,14 @@
+//! Sets of periodic tasks: policies, items, releases, deadlines, ranks and keys.
+#![tactic(auto)]
+
+mod items;
+mod jobs;
+mod policies;
+mod sets;
+mod tasks;
+
+pub use items::{Body, Item};
+pub use jobs::{Job, Key};
+pub use policies::Policy;
+pub use sets::TaskSet;
+pub use tasks::{Name, Task};
