@@ -1,5 +1,5 @@
 -- Keys: their order, and the keys of jobs.
-use Rattle.std.proofs.Common.{ℕ, ◌≡◌, ◌≤◌, ◌<◌, true, false, length, ap, ◌∙◌, arith}
+use Rattle.std.proofs.Common.{ℕ, ◌≡◌, ◌≤◌, ◌<◌, ◌≢◌, ◌⊎◌, inl, inr, true, false, length, ap, ◌∙◌, arith}
 use Rattle.std.proofs.lemmas.Bool.Decides.{nat_tests}
 use Rattle.rx_set.specs.declared.policies.Policy.{Policy}
 use Rattle.rx_set.specs.declared.policies.Policy.TheVariants.{Rm, Dm, Edf}
@@ -7,7 +7,7 @@ use Rattle.rx_set.specs.declared.jobs.Job.{Job}
 use Rattle.rx_set.specs.declared.jobs.Key.{Key}
 use Rattle.rx_set.specs.System.{System, key, key_by, is_below, due, rank}
 use Rattle.rx_set.proofs.Releases.{due_order}
-use Rattle.rx_set.proofs.Ranks.{rank_same}
+use Rattle.rx_set.proofs.Ranks.{bool_cases, rank_same}
 
 -- `is_below` is a strict total order
 pub below_not : (a : Key) → is_below a a ≡ false
@@ -40,6 +40,13 @@ below_same a b h g =
     let thirds : a.third ≡ b.third = grind (arith, nat_tests) in
     key_same a b firsts seconds thirds
 
+pub below_either : (a b : Key) → a ≢ b → (is_below a b ≡ true) ⊎ (is_below b a ≡ true)
+below_either a b differ =
+    elim (bool_cases (is_below a b)) [
+      inl lower ↦ inl lower
+    | inr first ↦ elim (bool_cases (is_below b a)) [ inl lower ↦ inr lower | inr second ↦ absurd (differ (below_same a b first second)) ]
+    ]
+
 by_number : (first second k m : ℕ) → k < m → (is_below (record { first = first; second = second; third = k }) (record { first = first; second = second; third = m })) ≡ true
 by_number first second k m h = grind (arith, nat_tests)
 
@@ -70,3 +77,8 @@ keys_same_by Edf system a b known_a known_b h = job_same a b (ap (λ (x : Key). 
 -- no two jobs have one key
 pub keys_same : (system : System) (a b : Job) → a.task < length system.tasks → b.task < length system.tasks → key system a ≡ key system b → a ≡ b
 keys_same system a b known_a known_b h = keys_same_by system.policy system a b known_a known_b h
+
+-- two jobs of which neither key is below the other are one
+pub jobs_same : (system : System) (a b : Job) → a.task < length system.tasks → b.task < length system.tasks
+    → is_below (key system a) (key system b) ≡ false → is_below (key system b) (key system a) ≡ false → a ≡ b
+jobs_same system a b known_a known_b h g = keys_same system a b known_a known_b (below_same (key system a) (key system b) h g)
