@@ -1,4 +1,6 @@
 // What a call answers.
+ghost use Rattle.rx_seq.specs.declared.replies.Reply.TheVariants.{Done};
+ghost use Rattle.std.specs.Prelude.{◌≡◌};
 
 /// The reply to a call.
 #[derive(Clone, Copy, Debug, PartialEq, Eq)]
@@ -30,6 +32,8 @@ pub enum Reply {
 }
 
 impl Default for Reply {
+    ghost is_default = { λ reply. reply ≡ Done 0 };
+
     fn default() -> Self {
         Reply::Done { v: 0 }
     }

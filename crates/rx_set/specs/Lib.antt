@@ -3,3 +3,4 @@ pub mod System
 pub mod Valid
 pub mod View
 pub mod Ranked
+pub mod Rows

@@ -1,5 +1,5 @@
 -- Which systems are valid.
-use Rattle.std.specs.Prelude.{ℕ, ◌≡◌, ◌≤◌, ◌<◌, ◌-◌, ◌^◌, Bool, true, false, List, length, get_or, slice_get, map, Some}
+use Rattle.std.specs.Prelude.{ℕ, ◌≡◌, ◌≤◌, ◌<◌, ◌-◌, ◌^◌, true, false, List, length, get_or, slice_get, map, Some}
 use Rattle.rx_seq.specs.Table.{IsPart, fits_part}
 use Rattle.rx_seq.specs.History.{part_at}
 use Rattle.rx_set.specs.declared.items.Item.{Item}
@@ -17,6 +17,11 @@ IsItem system (Op object call) = (object < length system.objects) × (fits_part 
 abbrev pub IsWork : Item → Type 0
 IsWork (Work ticks) = Unit {0}
 IsWork (Op object call) = ⊥
+
+-- and takes at most 1,000,000 ticks
+abbrev pub IsShortWork : Item → Type 0
+IsShortWork (Work ticks) = ticks ≤ 1000000
+IsShortWork (Op object call) = ⊥
 
 -- the item of a job at a place from 0 is one of work
 abbrev pub IsWorkAt : System → Job → ℕ → Type 0

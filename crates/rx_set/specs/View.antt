@@ -1,6 +1,5 @@
 -- What is shown of tasks in memory.
-use Rattle.std.specs.Prelude.{ℕ, List, [], map}
-use Rattle.arrayvec.specs.ArrayString.{ArrayString}
+use Rattle.std.specs.Prelude.{List, [], map}
 use Rattle.rx_set.specs.declared.policies.Policy.{Policy}
 use Rattle.rx_set.specs.declared.tasks.Task.{Task}
 use Rattle.rx_set.specs.System.{TaskRow, System}

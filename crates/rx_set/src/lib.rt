@@ -3,6 +3,7 @@
 
 mod items;
 mod jobs;
+pub mod laws;
 mod policies;
 mod sets;
 mod tasks;

@@ -1,0 +1,158 @@
+-- Worked rows of the table of the sequential objects: what a call makes of a state, and its reply.
+use Rattle.std.specs.Prelude.{ℕ, ◌≡◌, Bool, true, false, refl, List, [], ◌∷◌}
+use Rattle.rx_seq.specs.declared.kinds.Kind.TheVariants.{Cell, Queue, Registers, List as Ordered}
+use Rattle.rx_seq.specs.declared.kinds.Part.{Part}
+use Rattle.rx_seq.specs.declared.calls.Row.{Row}
+use Rattle.rx_seq.specs.declared.calls.Call.{Call}
+use Rattle.rx_seq.specs.declared.calls.Call.TheVariants.{Get, Set, Add, Swap, Put, Take, Insert, Remove, Has, Read, Shift, Multi}
+use Rattle.rx_seq.specs.declared.replies.Reply.TheVariants.{Done, Over, Differs, Full, Empty, Added, Present, Removed, Absent, Yes, No, Short}
+use Rattle.rx_seq.specs.Table.{start_of, fits_part, effect, answers}
+
+abbrev cell : Part
+cell = record { kind = Cell; cap = 1 }
+
+-- a queue and an ordered list of one number, and four registers
+abbrev queue : Part
+queue = record { kind = Queue; cap = 1 }
+
+abbrev ordered : Part
+ordered = record { kind = Ordered; cap = 1 }
+
+abbrev registers : Part
+registers = record { kind = Registers; cap = 4 }
+
+abbrev row : ℕ → ℕ → ℕ → Row
+row i old new = record { i = i; old = old; new = new }
+
+-- one call on each of the four registers
+abbrev all_four : (a b c d : Row) → Call
+all_four a b c d = Multi 4 (a ∷ b ∷ c ∷ d ∷ [])
+
+-- the first states
+pub cell_start : start_of cell ≡ 0 ∷ []
+cell_start = refl
+
+pub queue_start : start_of queue ≡ []
+queue_start = refl
+
+pub registers_start : start_of registers ≡ 0 ∷ 0 ∷ 0 ∷ 0 ∷ []
+registers_start = refl
+
+-- a queue that has one number is full, and gives it back
+pub put : effect queue [] (Put 5) ≡ answers (5 ∷ []) (Done 1)
+put = refl
+
+pub put_on_full : effect queue (5 ∷ []) (Put 6) ≡ answers (5 ∷ []) Full
+put_on_full = refl
+
+pub take : effect queue (5 ∷ []) Take ≡ answers [] (Done 5)
+take = refl
+
+pub take_of_empty : effect queue [] Take ≡ answers [] Empty
+take_of_empty = refl
+
+-- a list holds a number once; a number that it has is told before that it is full
+pub insert : effect ordered [] (Insert 3) ≡ answers (3 ∷ []) Added
+insert = refl
+
+pub insert_again : effect ordered (3 ∷ []) (Insert 3) ≡ answers (3 ∷ []) Present
+insert_again = refl
+
+pub insert_on_full : effect ordered (3 ∷ []) (Insert 4) ≡ answers (3 ∷ []) Full
+insert_on_full = refl
+
+pub has : effect ordered (3 ∷ []) (Has 3) ≡ answers (3 ∷ []) Yes
+has = refl
+
+pub remove : effect ordered (3 ∷ []) (Remove 3) ≡ answers [] Removed
+remove = refl
+
+pub remove_again : effect ordered [] (Remove 3) ≡ answers [] Absent
+remove_again = refl
+
+pub has_not : effect ordered [] (Has 3) ≡ answers [] No
+has_not = refl
+
+-- a longer list keeps its numbers in rising order
+pub insert_between : effect (record { kind = Ordered; cap = 4 }) (3 ∷ 9 ∷ []) (Insert 7) ≡ answers (3 ∷ 7 ∷ 9 ∷ []) Added
+insert_between = refl
+
+-- four registers are written at once, if all have their old values; the first that differs is told
+pub multi : effect registers (0 ∷ 0 ∷ 0 ∷ 0 ∷ []) (all_four (row 0 0 5) (row 1 0 6) (row 2 0 7) (row 3 0 8)) ≡ answers (5 ∷ 6 ∷ 7 ∷ 8 ∷ []) (Done 4)
+multi = refl
+
+pub multi_differs : effect registers (5 ∷ 6 ∷ 7 ∷ 8 ∷ []) (all_four (row 0 5 1) (row 1 6 1) (row 2 9 1) (row 3 8 1)) ≡ answers (5 ∷ 6 ∷ 7 ∷ 8 ∷ []) (Differs 7)
+multi_differs = refl
+
+pub read : effect registers (5 ∷ 6 ∷ 7 ∷ 8 ∷ []) (Read 2) ≡ answers (5 ∷ 6 ∷ 7 ∷ 8 ∷ []) (Done 7)
+read = refl
+
+-- 8 goes from register 3 to register 0, which then has 13; nothing is left to move
+pub shift : effect registers (5 ∷ 6 ∷ 7 ∷ 8 ∷ []) (Shift 3 0 8) ≡ answers (13 ∷ 6 ∷ 7 ∷ 0 ∷ []) (Done 13)
+shift = refl
+
+pub shift_short : effect registers (13 ∷ 6 ∷ 7 ∷ 0 ∷ []) (Shift 3 0 1) ≡ answers (13 ∷ 6 ∷ 7 ∷ 0 ∷ []) (Short 0)
+shift_short = refl
+
+-- a register holds no more than 32 bits
+pub shift_over : effect registers (4294967295 ∷ 1 ∷ 0 ∷ 0 ∷ []) (Shift 1 0 1) ≡ answers (4294967295 ∷ 1 ∷ 0 ∷ 0 ∷ []) Over
+shift_over = refl
+
+-- a cell holds no more than 24 bits
+pub set : effect cell (0 ∷ []) (Set 16777215) ≡ answers (16777215 ∷ []) (Done 16777215)
+set = refl
+
+pub add_over : effect cell (16777215 ∷ []) (Add 1) ≡ answers (16777215 ∷ []) Over
+add_over = refl
+
+pub swap : effect cell (16777215 ∷ []) (Swap 16777215 0) ≡ answers (0 ∷ []) (Done 0)
+swap = refl
+
+pub swap_differs : effect cell (0 ∷ []) (Swap 5 6) ≡ answers (0 ∷ []) (Differs 0)
+swap_differs = refl
+
+pub add : effect cell (0 ∷ []) (Add 7) ≡ answers (7 ∷ []) (Done 7)
+add = refl
+
+pub get : effect cell (7 ∷ []) Get ≡ answers (7 ∷ []) (Done 7)
+get = refl
+
+-- a call fits an object of its own kind
+pub fits_get : fits_part cell Get ≡ true
+fits_get = refl
+
+pub fits_other_kind : fits_part queue Get ≡ false
+fits_other_kind = refl
+
+-- a cell's numbers have at most 24 bits
+pub fits_set : fits_part cell (Set 16777215) ≡ true
+fits_set = refl
+
+pub fits_great_set : fits_part cell (Set 16777216) ≡ false
+fits_great_set = refl
+
+-- registers are numbered below their count, and an amount is moved between two of them
+pub fits_read : fits_part registers (Read 3) ≡ true
+fits_read = refl
+
+pub fits_far_read : fits_part registers (Read 4) ≡ false
+fits_far_read = refl
+
+pub fits_shift : fits_part registers (Shift 3 0 8) ≡ true
+fits_shift = refl
+
+pub fits_shift_to_itself : fits_part registers (Shift 3 3 8) ≡ false
+fits_shift_to_itself = refl
+
+-- a transaction names 1 to 4 registers, none twice, and has zeros after its rows
+pub fits_multi : fits_part registers (Multi 2 (row 0 0 5 ∷ row 1 0 6 ∷ row 0 0 0 ∷ row 0 0 0 ∷ [])) ≡ true
+fits_multi = refl
+
+pub fits_repeat : fits_part registers (Multi 2 (row 1 0 5 ∷ row 1 0 6 ∷ row 0 0 0 ∷ row 0 0 0 ∷ [])) ≡ false
+fits_repeat = refl
+
+pub fits_no_rows : fits_part registers (Multi 0 (row 0 0 0 ∷ row 0 0 0 ∷ row 0 0 0 ∷ row 0 0 0 ∷ [])) ≡ false
+fits_no_rows = refl
+
+pub fits_no_zeros : fits_part registers (Multi 1 (row 0 0 5 ∷ row 1 0 6 ∷ row 0 0 0 ∷ row 0 0 0 ∷ [])) ≡ false
+fits_no_zeros = refl

@@ -1,0 +1,146 @@
+-- Worked rows of names, ranks, times, keys, costs and demands.
+use Rattle.std.specs.Prelude.{ℕ, ◌≡◌, Bool, true, false, refl, List, [], ◌∷◌, codes, Some}
+use Rattle.rx_seq.specs.declared.kinds.Kind.TheVariants.{Cell, Queue}
+use Rattle.rx_seq.specs.declared.calls.Call.TheVariants.{Get, Put}
+use Rattle.rx_set.specs.declared.policies.Policy.{Policy}
+use Rattle.rx_set.specs.declared.policies.Policy.TheVariants.{Rm, Dm, Edf}
+use Rattle.rx_set.specs.declared.items.Item.{Item}
+use Rattle.rx_set.specs.declared.items.Item.TheVariants.{Work, Op}
+use Rattle.rx_set.specs.declared.jobs.Job.{Job}
+use Rattle.rx_set.specs.declared.jobs.Key.{Key}
+use Rattle.rx_set.specs.Names.{is_name, has_repeat}
+use Rattle.rx_set.specs.System.{System, ObjectRow, TaskRow, DemandRow, rank, release, due, key, is_below, ticks_of, item_at, attempt_cost, cost}
+
+abbrev task : ℕ → ℕ → ℕ → List Item → TaskRow
+task period deadline offset items = record { name = codes "t"; period = period; deadline = deadline; offset = offset; items = items }
+
+abbrev job : ℕ → ℕ → Job
+job task number = record { task = task; number = number }
+
+abbrev key_of : ℕ → ℕ → ℕ → Key
+key_of first second third = record { first = first; second = second; third = third }
+
+-- x has the shorter period and the longer deadline, y the other way round
+abbrev x : TaskRow
+x = task 10 9 3 (Work 2 ∷ [])
+
+abbrev y : TaskRow
+y = task 20 4 0 (Work 5 ∷ Op 0 Get ∷ Op 1 (Put 7) ∷ [])
+
+-- a cell, and a queue of one number
+abbrev system : Policy → List TaskRow → System
+system policy tasks = record {
+  policy = policy;
+  objects = record { name = codes "c"; part = record { kind = Cell; cap = 1 } } ∷ record { name = codes "q"; part = record { kind = Queue; cap = 1 } } ∷ [];
+  tasks = tasks;
+  demands = record { task = 1; job = 2; item = 1; ticks = 9 } ∷ [];
+}
+
+-- equal periods: the first task in the file has rank 1
+pub tie_first : rank (system Rm (task 10 10 0 [] ∷ task 10 5 0 [] ∷ [])) 0 ≡ 1
+tie_first = refl
+
+pub tie_second : rank (system Rm (task 10 10 0 [] ∷ task 10 5 0 [] ∷ [])) 1 ≡ 2
+tie_second = refl
+
+-- by periods x comes first, and by deadlines y
+pub by_period : rank (system Rm (x ∷ y ∷ [])) 0 ≡ 1
+by_period = refl
+
+pub by_period_other : rank (system Rm (x ∷ y ∷ [])) 1 ≡ 2
+by_period_other = refl
+
+pub by_deadline : rank (system Dm (x ∷ y ∷ [])) 0 ≡ 2
+by_deadline = refl
+
+pub by_deadline_other : rank (system Dm (x ∷ y ∷ [])) 1 ≡ 1
+by_deadline_other = refl
+
+-- under edf a rank is the place in the file
+pub by_place : rank (system Edf (y ∷ x ∷ [])) 0 ≡ 1
+by_place = refl
+
+-- job 3 of x: offset 3 and two periods of 10, then 9 ticks to its deadline
+pub third_release : release (system Rm (x ∷ y ∷ [])) (job 0 3) ≡ 23
+third_release = refl
+
+pub third_due : due (system Rm (x ∷ y ∷ [])) (job 0 3) ≡ 32
+third_due = refl
+
+-- keys: rank, 0 and number, or deadline, task and number
+pub key_by_rank : key (system Dm (x ∷ y ∷ [])) (job 0 3) ≡ key_of 2 0 3
+key_by_rank = refl
+
+pub key_by_deadline : key (system Edf (x ∷ y ∷ [])) (job 0 3) ≡ key_of 32 0 3
+key_by_deadline = refl
+
+pub key_of_other : key (system Edf (x ∷ y ∷ [])) (job 1 1) ≡ key_of 4 1 1
+key_of_other = refl
+
+-- the first part counts before the second, and the second before the third
+pub below_by_first : is_below (key_of 1 9 9) (key_of 2 0 0) ≡ true
+below_by_first = refl
+
+pub below_by_second : is_below (key_of 2 0 9) (key_of 2 1 0) ≡ true
+below_by_second = refl
+
+pub below_by_third : is_below (key_of 2 1 3) (key_of 2 1 4) ≡ true
+below_by_third = refl
+
+pub not_below_itself : is_below (key_of 2 1 3) (key_of 2 1 3) ≡ false
+not_below_itself = refl
+
+pub not_below_lower : is_below (key_of 2 0 0) (key_of 1 9 9) ≡ false
+not_below_lower = refl
+
+-- an attempt takes 2 ticks on a cell, and 8 on a queue of one number
+pub cell_attempt : attempt_cost (system Rm (x ∷ y ∷ [])) 0 ≡ 2
+cell_attempt = refl
+
+pub queue_attempt : attempt_cost (system Rm (x ∷ y ∷ [])) 1 ≡ 8
+queue_attempt = refl
+
+-- 5 ticks of work, one attempt on the cell and one on the queue
+pub body_cost : cost (system Rm (x ∷ y ∷ [])) 1 ≡ 15
+body_cost = refl
+
+-- job 2 of y needs 9 ticks for its first item, and the others the stated 5
+pub demanded_ticks : ticks_of (system Rm []).demands (job 1 2) 1 5 ≡ 9
+demanded_ticks = refl
+
+pub stated_ticks : ticks_of (system Rm []).demands (job 1 3) 1 5 ≡ 5
+stated_ticks = refl
+
+pub demanded_item : item_at (system Rm (x ∷ y ∷ [])) (job 1 2) 0 ≡ Some (Work 9)
+demanded_item = refl
+
+pub operation_item : item_at (system Rm (x ∷ y ∷ [])) (job 1 2) 1 ≡ Some (Op 0 Get)
+operation_item = refl
+
+-- a letter, then letters, digits or `_`, 1 to 16 bytes
+pub one_letter : is_name (codes "a") ≡ true
+one_letter = refl
+
+pub with_digits : is_name (codes "pump_2") ≡ true
+with_digits = refl
+
+pub digit_first : is_name (codes "9a") ≡ false
+digit_first = refl
+
+pub with_dash : is_name (codes "a-b") ≡ false
+with_dash = refl
+
+pub no_bytes : is_name [] ≡ false
+no_bytes = refl
+
+pub sixteen_bytes : is_name (codes "abcdefghijklmnop") ≡ true
+sixteen_bytes = refl
+
+pub seventeen_bytes : is_name (codes "abcdefghijklmnopq") ≡ false
+seventeen_bytes = refl
+
+pub two_alike : has_repeat (codes "a" ∷ codes "b" ∷ codes "a" ∷ []) ≡ true
+two_alike = refl
+
+pub all_apart : has_repeat (codes "a" ∷ codes "b" ∷ codes "ab" ∷ []) ≡ false
+all_apart = refl

@@ -1,0 +1,38 @@
+//! Laws of ranks, times and keys. Each function does nothing: its contract is the law, and holds of every system.
+ghost use Rattle.rx_set.specs.declared.jobs.Job.{Job};
+ghost use Rattle.rx_set.specs.declared.jobs.Key.{Key};
+ghost use Rattle.rx_set.specs.System.{System, key, is_ahead, is_below, rank, release, task_at};
+ghost use Rattle.rx_set.specs.Valid.{IsValid};
+ghost use Rattle.std.specs.Prelude.{ℕ, ◌≡◌, ◌≢◌, ◌≤◌, ◌<◌, ◌+◌, ◌↔◌, ◌⊎◌, length, true, false};
+
+/// Ranks are the places of the tasks in their order: different tasks have different ranks, these are the numbers from
+/// 1 to the number of tasks, and a task has a lower rank exactly if it comes before the other.
+pub fn ranks_are_places()
+    ensures range { (system : System) (task : ℕ) → task < length system.tasks → (1 ≤ rank system task) × (rank system task ≤ length system.tasks) }
+    ensures apart { (system : System) (a b : ℕ) → a < length system.tasks → b < length system.tasks → rank system a ≡ rank system b → a ≡ b }
+    ensures each { (system : System) (place : ℕ) → 1 ≤ place → place ≤ length system.tasks → (task : ℕ) × (task < length system.tasks) × (rank system task ≡ place) }
+    ensures order { (system : System) (a b : ℕ) → a < length system.tasks → b < length system.tasks → (rank system a < rank system b) ↔ (is_ahead system b a ≡ true) }
+{
+}
+
+/// Keys are in a strict order, in which any two different keys can be compared.
+pub fn keys_are_ordered()
+    ensures strict { (a : Key) → is_below a a ≡ false }
+    ensures transitive { (a b c : Key) → is_below a b ≡ true → is_below b c ≡ true → is_below a c ≡ true }
+    ensures total { (a b : Key) → a ≢ b → (is_below a b ≡ true) ⊎ (is_below b a ≡ true) }
+{
+}
+
+/// No two jobs have one key, and of two jobs of one task the later has the higher key, so the lower priority.
+pub fn keys_of_jobs()
+    ensures apart { (system : System) (a b : Job) → a.task < length system.tasks → b.task < length system.tasks → key system a ≡ key system b → a ≡ b }
+    ensures later { (system : System) (task k m : ℕ) → k < m → is_below (key system (record { task = task; number = k })) (key system (record { task = task; number = m })) ≡ true }
+{
+}
+
+/// Jobs of one task are released at least a period apart, so at most n + 1 of them are released by the time n.
+pub fn releases_are_periodic()
+    ensures spaced { (system : System) (task k m : ℕ) → 1 ≤ k → k < m → release system (record { task = task; number = k }) + (task_at system task).period ≤ release system (record { task = task; number = m }) }
+    ensures few { (system : System) (job : Job) (time : ℕ) → IsValid system → job.task < length system.tasks → release system job ≤ time → job.number ≤ time + 1 }
+{
+}
