@@ -1,4 +1,5 @@
 pub mod Schedule
 pub mod Events
 pub mod Counts
+pub mod States
 pub mod Rows

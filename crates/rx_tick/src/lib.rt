@@ -2,8 +2,12 @@
 #![tactic(auto)]
 
 mod events;
+mod looks;
+mod slots;
+mod states;
 mod ticks;
 mod totals;
+mod turns;
 
 pub use events::Event;
 pub use ticks::Tick;

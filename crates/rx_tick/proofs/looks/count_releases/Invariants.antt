@@ -1,0 +1,14 @@
+use Rattle.std.proofs.Common.{◌≡◌, ◌≤◌, ◌+◌, ◌++◌, length}
+use Rattle.rx_tick.specs.declared.events.Event.TheVariants.{Release}
+use Rattle.rx_tick.specs.Schedule.{slots}
+use Rattle.rx_tick.specs.Events.{is_released_at}
+use Rattle.rx_tick.proofs.Lists.{told_of}
+use Rattle.rx_tick.proofs.Told.{AreBetween}
+use Rattle.rx_tick.proofs.looks.count_releases.Given as goal
+
+abbrev pub invariant-loop-task : goal.invariant-loop-task
+invariant-loop-task l = record {
+  states : AreBetween l.set (slots l.set l.now) l.now l.task l.states;
+  told : l.events.items ≡ l.initial.events.items ++ told_of (Release l.now) (is_released_at l.set l.now) l.now l.task;
+  few : length l.events.items ≤ length l.initial.events.items + l.task;
+}
