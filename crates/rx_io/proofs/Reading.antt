@@ -1,5 +1,5 @@
 -- What a read from memory gives and leaves.
-use Rattle.std.proofs.Common.{◌≡◌, ◌≤◌, ◌<◌, ◌+◌, ◌-◌, ℕ, List, [], ◌++◌, min, refl, sym, ap, ◌∙◌, length, take, drop, take-append-drop, arith}
+use Rattle.std.proofs.Common.{◌≡◌, ◌≤◌, ◌<◌, ◌+◌, ◌-◌, ℕ, List, [], ◌++◌, min, sym, ap, ◌∙◌, length, take, drop, take-append-drop, arith}
 use Rattle.std.proofs.lemmas.List.{drop-drop, nil_from_length, length-drop}
 use Rattle.std.proofs.lemmas.Grind.{common_steps}
 

@@ -1,6 +1,6 @@
 use Rattle.rx_io.proofs.Puts.{put_more, put_within, put_failed}
 use Rattle.rx_io.proofs.writes.put.Goals as goal
-use Rattle.std.proofs.Common.{rules, arith, ◌≡◌, ◌∙◌}
+use Rattle.std.proofs.Common.{rules, ◌∙◌}
 
 pub returns-in-Err : goal.returns-in-Err
 returns-in-Err g c = record {

@@ -1,4 +1,4 @@
-use Rattle.std.proofs.Common.{ap, arith, ◌≡◌, ◌∙◌, ◌+◌, ◌-◌, length, take, drop, length-append, length-drop}
+use Rattle.std.proofs.Common.{ap, arith, ◌∙◌, ◌+◌, ◌-◌, length, take, drop, length-append, length-drop}
 use Rattle.std.proofs.lemmas.List.{length-take-le}
 use Rattle.rx_io.proofs.Reading.{gives_piece, gives_end}
 use Rattle.rx_io.proofs.memory.MemorySourceSource.read.Goals as goal
