@@ -1,0 +1,3 @@
+mod MemoryRows
+pub mod Puts
+pub mod Reading
