@@ -1,5 +1,5 @@
 -- Worked rows of the table of the sequential objects: what a call makes of a state, and its reply.
-use Rattle.std.specs.Prelude.{ℕ, ◌≡◌, Bool, true, false, refl, List, [], ◌∷◌}
+use Rattle.std.specs.Prelude.{ℕ, ◌≡◌, true, false, refl, [], ◌∷◌}
 use Rattle.rx_seq.specs.declared.kinds.Kind.TheVariants.{Cell, Queue, Registers, List as Ordered}
 use Rattle.rx_seq.specs.declared.kinds.Part.{Part}
 use Rattle.rx_seq.specs.declared.calls.Row.{Row}

@@ -43,8 +43,8 @@ below_same a b h g =
 pub below_either : (a b : Key) → a ≢ b → (is_below a b ≡ true) ⊎ (is_below b a ≡ true)
 below_either a b differ =
     elim (bool_cases (is_below a b)) [
-      inl lower ↦ inl lower
-    | inr first ↦ elim (bool_cases (is_below b a)) [ inl lower ↦ inr lower | inr second ↦ absurd (differ (below_same a b first second)) ]
+      | inl lower ↦ inl lower
+      | inr first ↦ elim (bool_cases (is_below b a)) [ inl lower ↦ inr lower | inr second ↦ absurd (differ (below_same a b first second)) ]
     ]
 
 by_number : (first second k m : ℕ) → k < m → (is_below (record { first = first; second = second; third = k }) (record { first = first; second = second; third = m })) ≡ true

@@ -15,7 +15,7 @@ use Rattle.rx_set.specs.View.{row_of, system_of}
 use Rattle.rx_set.specs.Ranked.{IsTaskSet}
 use Rattle.rx_set.proofs.Counts.{length-numbers, get_or-map_numbers}
 use Rattle.rx_set.proofs.Ranks.{rank_found}
-use Rattle.rx_set.proofs.Releases.{release_bound}
+use Rattle.rx_set.proofs.Releases.{periods_bound}
 
 short_work : (system : System) (item : Item) → length system.objects ≡ 0 → IsItem system item → IsShortWork item
 short_work system (Work ticks) none valid = valid.1
@@ -36,10 +36,12 @@ shown_valid system shown is valid = subst IsValid is valid
 
 -- its numbers are small
 pub job_bound : (shown : System) (job : Job) (task : Task) → IsValid shown → IsJob shown job → task_of shown job ≡ row_of task
-    → (task.offset + (job.number - 1) * task.period ≤ 2 ^ 40 * 1000000) × (task.deadline ≤ 1000000)
+    → (job.number * task.period ≤ 2 ^ 40 * 1000000) × ((job.number - 1) * task.period ≤ 2 ^ 40 * 1000000) × (task.offset ≤ 1000000) × (task.deadline ≤ 1000000)
 job_bound shown job task valid known is =
     let row = valid.tasks job.task known.task in (
-      subst (λ (r : TaskRow). r.offset + (job.number - 1) * r.period ≤ 2 ^ 40 * 1000000) is (release_bound shown job valid known),
+      subst (λ (r : TaskRow). job.number * r.period ≤ 2 ^ 40 * 1000000) is (periods_bound job.number (task_of shown job).period row.period.1 known.number.1),
+      subst (λ (r : TaskRow). (job.number - 1) * r.period ≤ 2 ^ 40 * 1000000) is (periods_bound (job.number - 1) (task_of shown job).period row.period.1 (omega (arith, known.number.1))),
+      subst (λ (r : TaskRow). r.offset ≤ 1000000) is row.offset,
       subst (λ (r : TaskRow). r.deadline ≤ 1000000) is (omega (arith, row.deadline.1, row.period.1)),
     )
 

@@ -1,5 +1,5 @@
 -- Worked rows of names, ranks, times, keys, costs and demands.
-use Rattle.std.specs.Prelude.{ℕ, ◌≡◌, Bool, true, false, refl, List, [], ◌∷◌, codes, Some}
+use Rattle.std.specs.Prelude.{ℕ, ◌≡◌, true, false, refl, List, [], ◌∷◌, codes, Some}
 use Rattle.rx_seq.specs.declared.kinds.Kind.TheVariants.{Cell, Queue}
 use Rattle.rx_seq.specs.declared.calls.Call.TheVariants.{Get, Put}
 use Rattle.rx_set.specs.declared.policies.Policy.{Policy}
@@ -9,7 +9,7 @@ use Rattle.rx_set.specs.declared.items.Item.TheVariants.{Work, Op}
 use Rattle.rx_set.specs.declared.jobs.Job.{Job}
 use Rattle.rx_set.specs.declared.jobs.Key.{Key}
 use Rattle.rx_set.specs.Names.{is_name, has_repeat}
-use Rattle.rx_set.specs.System.{System, ObjectRow, TaskRow, DemandRow, rank, release, due, key, is_below, ticks_of, item_at, attempt_cost, cost}
+use Rattle.rx_set.specs.System.{System, TaskRow, rank, release, due, key, is_below, ticks_of, item_at, attempt_cost, cost}
 
 abbrev task : ℕ → ℕ → ℕ → List Item → TaskRow
 task period deadline offset items = record { name = codes "t"; period = period; deadline = deadline; offset = offset; items = items }
@@ -144,3 +144,14 @@ two_alike = refl
 
 pub all_apart : has_repeat (codes "a" ∷ codes "b" ∷ codes "ab" ∷ []) ≡ false
 all_apart = refl
+
+-- two tasks with work alone, as the test builds them
+abbrev pub pair : Policy → System
+pair policy = record {
+  policy = policy;
+  objects = [];
+  tasks =
+      record { name = codes "fast"; period = 10; deadline = 9; offset = 3; items = Work 2 ∷ [] }
+      ∷ record { name = codes "urgent"; period = 20; deadline = 4; offset = 0; items = Work 5 ∷ Work 1 ∷ [] } ∷ [];
+  demands = [];
+}

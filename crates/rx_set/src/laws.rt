@@ -12,27 +12,23 @@ pub fn ranks_are_places()
     ensures apart { (system : System) (a b : ℕ) → a < length system.tasks → b < length system.tasks → rank system a ≡ rank system b → a ≡ b }
     ensures each { (system : System) (place : ℕ) → 1 ≤ place → place ≤ length system.tasks → (task : ℕ) × (task < length system.tasks) × (rank system task ≡ place) }
     ensures order { (system : System) (a b : ℕ) → a < length system.tasks → b < length system.tasks → (rank system a < rank system b) ↔ (is_ahead system b a ≡ true) }
-{
-}
+{}
 
 /// Keys are in a strict order, in which any two different keys can be compared.
 pub fn keys_are_ordered()
     ensures strict { (a : Key) → is_below a a ≡ false }
     ensures transitive { (a b c : Key) → is_below a b ≡ true → is_below b c ≡ true → is_below a c ≡ true }
     ensures total { (a b : Key) → a ≢ b → (is_below a b ≡ true) ⊎ (is_below b a ≡ true) }
-{
-}
+{}
 
 /// No two jobs have one key, and of two jobs of one task the later has the higher key, so the lower priority.
 pub fn keys_of_jobs()
     ensures apart { (system : System) (a b : Job) → a.task < length system.tasks → b.task < length system.tasks → key system a ≡ key system b → a ≡ b }
     ensures later { (system : System) (task k m : ℕ) → k < m → is_below (key system (record { task = task; number = k })) (key system (record { task = task; number = m })) ≡ true }
-{
-}
+{}
 
 /// Jobs of one task are released at least a period apart, so at most n + 1 of them are released by the time n.
 pub fn releases_are_periodic()
     ensures spaced { (system : System) (task k m : ℕ) → 1 ≤ k → k < m → release system (record { task = task; number = k }) + (task_at system task).period ≤ release system (record { task = task; number = m }) }
     ensures few { (system : System) (job : Job) (time : ℕ) → IsValid system → job.task < length system.tasks → release system job ≤ time → job.number ≤ time + 1 }
-{
-}
+{}

@@ -7,6 +7,8 @@ pub mod laws;
 mod policies;
 mod sets;
 mod tasks;
+#[cfg(test)]
+mod tests;
 
 pub use items::{Body, Item};
 pub use jobs::{Job, Key};

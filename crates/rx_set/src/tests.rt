@@ -1,0 +1,58 @@
+// One set, under each policy.
+ghost use Rattle.rx_set.specs.Rows.{pair};
+ghost use Rattle.std.specs.Prelude.{◌≡◌, IfOk};
+
+use super::*;
+use std::alloc::Global;
+use std::test::Fail;
+
+/// A task of period 10, deadline 9 and offset 3, and one of period 20 and deadline 4.
+fn two_tasks(alloc: Global, policy: Policy) -> Result<TaskSet, Fail>
+    ensures { IfOk result (λ set. set ≡ pair policy) }
+{
+    let fast = Task {
+        name: Name::from("fast")?,
+        period: 10,
+        deadline: 9,
+        offset: 3,
+        body: Body::of(vec![in alloc; Item::Work { n: 2 }]?),
+    };
+    let urgent = Task {
+        name: Name::from("urgent")?,
+        period: 20,
+        deadline: 4,
+        offset: 0,
+        body: Body::of(vec![in alloc; Item::Work { n: 5 }, Item::Work { n: 1 }]?),
+    };
+    Ok(TaskSet::build(policy, vec![in alloc; fast, urgent]?))
+}
+
+#[test]
+fn each_policy(rt: HostRuntime) -> Result<(), Fail> {
+    let rows = [
+        (Policy::Rm, 1, 1, 0, 3),
+        (Policy::Dm, 2, 2, 0, 3),
+        (Policy::Edf, 1, 32, 0, 3),
+    ];
+    for (policy, rank, first, second, third) in rows {
+        let set = two_tasks(rt.alloc(), policy)?;
+        let job = Job { task: 0, number: 3 };
+        assert_eq!(rt; set.policy(), policy);
+        assert_eq!(rt; set.tasks().len(), 2);
+        assert_eq!(rt; set.rank(0), rank);
+        assert_eq!(rt; set.ranked(set.rank(0)), 0);
+        assert_eq!(rt; set.release(job), 23);
+        assert_eq!(rt; set.due(job), 32);
+        assert_eq!(rt;
+            set.key(job),
+            Key {
+                first,
+                second,
+                third
+            }
+        );
+        assert_eq!(rt; set.cost(1), 6);
+        assert_eq!(rt; set.ticks(Job { task: 1, number: 1 }, 2), 1);
+    }
+    Ok(())
+}
