@@ -1,0 +1,4 @@
+pub mod Schedule
+pub mod Events
+pub mod Counts
+pub mod Rows

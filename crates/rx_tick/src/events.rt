@@ -1,0 +1,49 @@
+// Events of a schedule.
+
+use rx_seq::Reply;
+use rx_set::Job;
+
+/// One event. Times and slots are in ticks from 0, items are numbered from 1.
+#[derive(Clone, Copy, Debug, PartialEq, Eq)]
+pub enum Event {
+    /// The job's absolute deadline is now, and its slots so far do not finish it.
+    Miss { at: u64, job: Job },
+    /// The job is released.
+    Release { at: u64, job: Job },
+    /// The job had the slot before, is unfinished after it, and another job has the slot now.
+    Preempt { at: u64, job: Job, by: Job },
+    /// An attempt won in this slot, which made the item's call: its first slot, the reply, and the object's new tag.
+    Reply {
+        at: u64,
+        first: u64,
+        job: Job,
+        item: u32,
+        reply: Reply,
+        tag: u64,
+    },
+    /// An attempt was lost in this slot: its first slot, the tag that it had loaded, and the one that it found.
+    Retry {
+        at: u64,
+        first: u64,
+        job: Job,
+        item: u32,
+        expected: u64,
+        found: u64,
+    },
+    /// The job's last item is complete.
+    Finish { at: u64, job: Job },
+}
+
+impl Default for Event {
+    ghost use Rattle.std.specs.Prelude.{◌≡◌};
+    ghost use Rattle.rx_tick.specs.declared.events.Event.TheVariants.{Miss};
+
+    ghost is_default = { λ event. event ≡ Miss 0 (record { task = 0; number = 0 }) };
+
+    fn default() -> Self {
+        Event::Miss {
+            at: 0,
+            job: Job { task: 0, number: 0 },
+        }
+    }
+}
