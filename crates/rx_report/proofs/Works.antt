@@ -1,5 +1,5 @@
 -- A valid set without objects asks for work alone.
-use Rattle.std.proofs.Common.{ℕ, ◌≡◌, ◌≤◌, ◌<◌, List, [], length, get_or, map, ap, sym, subst, ◌∙◌, None, Some, IfSome, Bor, arith}
+use Rattle.std.proofs.Common.{ℕ, ◌≡◌, ◌<◌, List, [], length, get_or, map, ap, sym, subst, ◌∙◌, None, Some, IfSome, Bor, arith}
 use Rattle.std.proofs.lemmas.List.{get_or-map, length-map}
 use Rattle.std.proofs.lemmas.List.Elements.{All-from_get_or}
 use Rattle.std.proofs.lemmas.Option.{slice_get-get_or}

@@ -1,5 +1,5 @@
 -- The lines of a report, byte by byte. Words are separated by one space, numbers are decimal, and each line ends with its line feed.
-use Rattle.std.specs.Prelude.{ℕ, ◌-◌, List, [], ◌∷◌, ◌++◌, get_or, slice_get, take, codes, decimal, Option, Some, None}
+use Rattle.std.specs.Prelude.{ℕ, ◌-◌, List, [], ◌++◌, get_or, slice_get, take, codes, decimal, Option, Some, None}
 use Rattle.std.specs.List.{flat_map}
 use Rattle.rx_seq.specs.declared.kinds.Kind.{Kind}
 use Rattle.rx_seq.specs.declared.kinds.Kind.TheVariants.{Cell, Queue, Registers, List as Ordered}
@@ -86,16 +86,20 @@ reply_text (Short v) = codes "short" ++ spaced v
 abbrev pub told : System → ℕ → List ℕ → Job → List ℕ
 told system at what job = decimal at ++ what ++ job_text system job
 
+-- the same, and the number of the job's item that it is about
+abbrev pub told_item : System → ℕ → List ℕ → Job → ℕ → List ℕ
+told_item system at what job item = told system at what job ++ spaced item ++ codes " "
+
 -- what an event tells
 abbrev pub event_text : System → Event → List ℕ
 event_text system (Miss at job) = told system at (codes " miss ") job
 event_text system (Release at job) = told system at (codes " release ") job
 event_text system (Preempt at job by) = told system at (codes " preempt ") job ++ codes " by " ++ job_text system by
 event_text system (Reply at first job item reply tag) =
-    told system at (codes " reply ") job ++ spaced item ++ codes " " ++ item_text system (item_of system job item)
+    told_item system at (codes " reply ") job item ++ item_text system (item_of system job item)
     ++ codes " -> " ++ reply_text reply ++ codes " tag" ++ spaced tag
 event_text system (Retry at first job item expected found) =
-    told system at (codes " retry ") job ++ spaced item ++ codes " " ++ object_text system (item_of system job item)
+    told_item system at (codes " retry ") job item ++ object_text system (item_of system job item)
     ++ codes " tag" ++ spaced expected ++ codes " now" ++ spaced found
 event_text system (Finish at job) = told system at (codes " finish ") job
 

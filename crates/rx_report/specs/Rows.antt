@@ -1,18 +1,18 @@
 -- Worked lines and reports.
-use Rattle.std.specs.Prelude.{ℕ, ◌≡◌, ◌++◌, refl, List, [], ◌∷◌, codes, Option, Some, None}
+use Rattle.std.specs.Prelude.{ℕ, ◌≡◌, refl, List, [], ◌∷◌, map, codes}
 use Rattle.std.specs.Fmt.{digits}
 use Rattle.rx_seq.specs.declared.kinds.Kind.{Kind}
-use Rattle.rx_seq.specs.declared.kinds.Kind.TheVariants.{Cell, Queue, Registers}
+use Rattle.rx_seq.specs.declared.kinds.Kind.TheVariants.{Cell, Queue, Registers, List as Ordered}
 use Rattle.rx_seq.specs.declared.calls.Row.{Row}
-use Rattle.rx_seq.specs.declared.calls.Call.TheVariants.{Add, Swap, Take, Shift, Multi}
-use Rattle.rx_seq.specs.declared.replies.Reply.TheVariants.{Done, Empty, Short}
+use Rattle.rx_seq.specs.declared.calls.Call.TheVariants.{Get, Set, Add, Swap, Put, Take, Insert, Remove, Has, Read, Shift, Multi}
+use Rattle.rx_seq.specs.declared.replies.Reply.TheVariants.{Done, Over, Differs, Full, Empty, Added, Present, Removed, Absent, Yes, No, Short}
 use Rattle.rx_set.specs.declared.policies.Policy.TheVariants.{Rm}
 use Rattle.rx_set.specs.declared.items.Item.{Item}
 use Rattle.rx_set.specs.declared.items.Item.TheVariants.{Work, Op}
 use Rattle.rx_set.specs.declared.jobs.Job.{Job}
 use Rattle.rx_set.specs.System.{System, ObjectRow, TaskRow}
 use Rattle.rx_tick.specs.declared.events.Event.TheVariants.{Miss, Reply, Retry}
-use Rattle.rx_report.specs.Lines.{call_text, event_line, object_line, reply_text}
+use Rattle.rx_report.specs.Lines.{call_text, event_line, kind_word, object_line, reply_text}
 use Rattle.rx_report.specs.Report.{misses_told, report}
 
 abbrev task : List ℕ → ℕ → ℕ → List Item → TaskRow
@@ -76,13 +76,23 @@ called = record {
   demands = [];
 }
 
-pub call_swap : call_text (codes "c") (Swap 1 16777215) ≡ codes "swap c 1 16777215"
+-- each kind of call, its object first
+pub call_texts : map (call_text (codes "o"))
+    (Get ∷ Set 1 ∷ Add 2 ∷ Swap 3 16777215 ∷ Put 5 ∷ Take ∷ Insert 6 ∷ Remove 7 ∷ Has 8 ∷ Read 9 ∷ Shift 1 2 30
+    ∷ Multi 4 (row 3 0 1 ∷ row 2 4 5 ∷ row 1 6 7 ∷ row 0 8 9 ∷ []) ∷ []) ≡
+    codes "get o" ∷ codes "set o 1" ∷ codes "add o 2" ∷ codes "swap o 3 16777215" ∷ codes "put o 5" ∷ codes "take o" ∷ codes "insert o 6"
+    ∷ codes "remove o 7" ∷ codes "has o 8" ∷ codes "read o 9" ∷ codes "shift o 1 2 30" ∷ codes "multi o 3 0 1 2 4 5 1 6 7 0 8 9" ∷ []
 unfolding digits
-call_swap = refl
+call_texts = refl
 
-pub reply_short : reply_text (Short 0) ≡ codes "short 0"
+pub kind_words : map kind_word (Cell ∷ Queue ∷ Ordered ∷ Registers ∷ []) ≡ codes "cell" ∷ codes "queue" ∷ codes "list" ∷ codes "registers" ∷ []
+kind_words = refl
+
+pub reply_texts : map reply_text (Done 16777215 ∷ Over ∷ Differs 0 ∷ Full ∷ Empty ∷ Added ∷ Present ∷ Removed ∷ Absent ∷ Yes ∷ No ∷ Short 0 ∷ []) ≡
+    codes "done 16777215" ∷ codes "over" ∷ codes "differs 0" ∷ codes "full" ∷ codes "empty" ∷ codes "added" ∷ codes "present" ∷ codes "removed"
+    ∷ codes "absent" ∷ codes "yes" ∷ codes "no" ∷ codes "short 0" ∷ []
 unfolding digits
-reply_short = refl
+reply_texts = refl
 
 pub line_empty : event_line called (Reply 13 0 (job 0 1) 1 Empty 1) ≡ codes "13 reply t 1 1 take q -> empty tag 1\n"
 unfolding digits

@@ -3,7 +3,7 @@ ghost use Rattle.std.specs.Prelude.{◌≡◌, ◌≤◌, ◌+◌, ◌++◌, len
 ghost use Rattle.rx_report.specs.Lines.{event_line, event_text};
 
 use crate::items::{push_item, push_object};
-use crate::jobs::{push_job, push_told};
+use crate::jobs::{push_job, push_told, push_told_item};
 use crate::lines::{Line, push_field, push_text};
 use crate::replies::push_reply;
 use rx_set::TaskSet;
@@ -31,9 +31,7 @@ fn push_event(set: &TaskSet, event: &Event, line: &mut Line)
             tag,
             ..
         } => {
-            push_told(set, at, b" reply ", job, line);
-            push_field(line, b"", u64::from(item));
-            push_text(line, b" ");
+            push_told_item(set, at, b" reply ", job, item, line);
             push_item(set, job, item, line);
             push_text(line, b" -> ");
             push_reply(line, reply);
@@ -47,9 +45,7 @@ fn push_event(set: &TaskSet, event: &Event, line: &mut Line)
             found,
             ..
         } => {
-            push_told(set, at, b" retry ", job, line);
-            push_field(line, b"", u64::from(item));
-            push_text(line, b" ");
+            push_told_item(set, at, b" retry ", job, item, line);
             push_object(set, job, item, line);
             push_field(line, b" tag", expected);
             push_field(line, b" now", found);

@@ -3,9 +3,9 @@ ghost use Rattle.std.specs.Prelude.{◌≡◌, ◌≤◌, ◌+◌, ◌++◌, len
 ghost use Rattle.rx_set.specs.System.{no_task, task_of};
 ghost use Rattle.rx_set.specs.Valid.{IsWork};
 ghost use Rattle.rx_set.specs.View.{row_of};
-ghost use Rattle.rx_report.specs.Lines.{job_text, told};
+ghost use Rattle.rx_report.specs.Lines.{job_text, told, told_item};
 
-use crate::lines::{Line, push_field, push_number, push_text};
+use crate::lines::{Line, push_field, push_number, push_spaced, push_text};
 use rx_set::{Job, Task, TaskSet};
 
 /// The task of a job, if the set has it. A set without objects has no operations.
@@ -25,7 +25,7 @@ pub(crate) fn push_job(set: &TaskSet, job: Job, line: &mut Line)
 {
     match task_of(set, job) {
         Some(task) => push_field(line, task.name.as_str().as_bytes(), job.number),
-        None => push_field(line, b"", job.number),
+        None => push_spaced(line, job.number),
     }
 }
 
@@ -38,4 +38,22 @@ pub(crate) fn push_told(set: &TaskSet, at: u64, what: &[u8], job: Job, line: &mu
     push_number(line, at);
     push_text(line, what);
     push_job(set, job, line);
+}
+
+/// Appends the same, and the number of the job's item that it is about.
+pub(crate) fn push_told_item(
+    set: &TaskSet,
+    at: u64,
+    what: &[u8],
+    job: Job,
+    item: u32,
+    line: &mut Line,
+)
+    requires { length line.old.items + length what.now + 79 ≤ 1024 }
+    ensures text { line.new.items ≡ line.old.items ++ told_item set.now at what.now job item }
+    ensures few { length line.new.items ≤ length line.old.items + length what.now + 79 }
+{
+    push_told(set, at, what, job, line);
+    push_spaced(line, u64::from(item));
+    push_text(line, b" ");
 }

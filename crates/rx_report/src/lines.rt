@@ -29,6 +29,16 @@ pub(crate) fn push_number(line: &mut Line, n: u64)
     push_text(line, buffer.format(n).as_bytes());
 }
 
+/// Appends a space and a number.
+pub(crate) fn push_spaced(line: &mut Line, n: u64)
+    requires { length line.old.items + 21 ≤ 1024 }
+    ensures text { line.new.items ≡ line.old.items ++ spaced n }
+    ensures few { length line.new.items ≤ length line.old.items + 21 }
+{
+    push_text(line, b" ");
+    push_number(line, n);
+}
+
 /// Appends a text, a space and a number.
 pub(crate) fn push_field(line: &mut Line, text: &[u8], n: u64)
     requires { length line.old.items + length text.now + 21 ≤ 1024 }
@@ -36,6 +46,5 @@ pub(crate) fn push_field(line: &mut Line, text: &[u8], n: u64)
     ensures few { length line.new.items ≤ length line.old.items + length text.now + 21 }
 {
     push_text(line, text);
-    push_text(line, b" ");
-    push_number(line, n);
+    push_spaced(line, n);
 }

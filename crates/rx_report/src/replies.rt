@@ -26,3 +26,32 @@ pub(crate) fn push_reply(line: &mut Line, reply: Reply)
         Reply::Short { v } => push_field(line, b"short", u64::from(v)),
     }
 }
+
+#[cfg(test)]
+mod tests {
+    use super::*;
+
+    #[test]
+    fn writes_replies(rt: HostRuntime) {
+        let cases: [(Reply, &[u8]); 12] = [
+            (Reply::Done { v: u32::MAX }, b"done 4294967295"),
+            (Reply::Over, b"over"),
+            (Reply::Differs { v: 7 }, b"differs 7"),
+            (Reply::Full, b"full"),
+            (Reply::Empty, b"empty"),
+            (Reply::Added, b"added"),
+            (Reply::Present, b"present"),
+            (Reply::Removed, b"removed"),
+            (Reply::Absent, b"absent"),
+            (Reply::Yes, b"yes"),
+            (Reply::No, b"no"),
+            (Reply::Short { v: 0 }, b"short 0"),
+        ];
+        let mut line = Line::new();
+        for (reply, text) in cases {
+            line.clear();
+            push_reply(&mut line, reply);
+            assert_eq!(rt; line.as_slice(), text);
+        }
+    }
+}

@@ -22,3 +22,40 @@ pub fn total_line(totals: &Totals, out: &mut Line)
     push_field(out, b" missed", totals.missed);
     push_text(out, b"\n");
 }
+
+#[cfg(test)]
+mod tests {
+    use super::*;
+
+    #[test]
+    fn writes_totals(rt: HostRuntime) {
+        let most = u64::MAX;
+        let cases: [(Totals, &[u8]); 2] = [
+            (
+                Totals {
+                    ticks: 10,
+                    idle: 2,
+                    released: 3,
+                    finished: 4,
+                    replies: 5,
+                    retries: 6,
+                    preempted: 7,
+                    missed: 0,
+                },
+                b"total ticks 10 idle 2 released 3 finished 4 replies 5 retries 6 preempted 7 missed 0\n",
+            ),
+            (
+                Totals {
+                    ticks: most,
+                    ..Totals::new()
+                },
+                b"total ticks 18446744073709551615 idle 0 released 0 finished 0 replies 0 retries 0 preempted 0 missed 0\n",
+            ),
+        ];
+        let mut line = Line::new();
+        for (totals, text) in cases {
+            total_line(&totals, &mut line);
+            assert_eq!(rt; line.as_slice(), text);
+        }
+    }
+}
