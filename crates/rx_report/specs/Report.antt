@@ -1,0 +1,36 @@
+-- The report of a run of n ticks.
+use Rattle.std.specs.Prelude.{ℕ, List, ◌++◌, length}
+use Rattle.std.specs.List.{flat_map}
+use Rattle.rx_seq.specs.declared.entries.Entry.{Entry}
+use Rattle.rx_seq.specs.History.{replay, tag_of}
+use Rattle.rx_set.specs.System.{System, parts_of, numbers}
+use Rattle.rx_tick.specs.declared.events.Event.{Event}
+use Rattle.rx_tick.specs.declared.totals.Totals.{Totals}
+use Rattle.rx_tick.specs.Schedule.{history, slots}
+use Rattle.rx_tick.specs.Events.{events, misses}
+use Rattle.rx_tick.specs.Counts.{totals_of}
+use Rattle.rx_report.specs.Lines.{event_line, object_line, total_line}
+
+-- the events of the first n slots, and the misses at time n
+abbrev pub told_of : System → ℕ → List Event
+told_of system n = events system n ++ misses system (slots system n)
+
+-- the totals of the first n slots and of all events that are told
+abbrev pub run_totals : System → ℕ → Totals
+run_totals system n = totals_of (slots system n) (told_of system n)
+
+-- the line of an object after these entries: its tag and its state are theirs
+abbrev pub object_line_after : System → List Entry → ℕ → List ℕ
+object_line_after system before object = object_line system object (tag_of object before) (replay (parts_of system) object before)
+
+-- the lines of the objects in file order, after the entries of the first n slots
+abbrev pub object_lines : System → ℕ → List ℕ
+object_lines system n = flat_map (object_line_after system (history (slots system n))) (numbers (length system.objects))
+
+-- all that a run of n ticks writes: its events, its objects and its totals
+abbrev pub report : System → ℕ → List ℕ
+report system n = flat_map (event_line system) (told_of system n) ++ object_lines system n ++ total_line (run_totals system n)
+
+-- how many misses a run of n ticks tells
+abbrev pub misses_told : System → ℕ → ℕ
+misses_told system n = (run_totals system n).missed

@@ -1,0 +1,132 @@
+-- Worked lines and reports.
+use Rattle.std.specs.Prelude.{ℕ, ◌≡◌, refl, List, [], ◌∷◌, map, codes}
+use Rattle.std.specs.Fmt.{digits}
+use Rattle.rx_seq.specs.declared.kinds.Kind.{Kind}
+use Rattle.rx_seq.specs.declared.kinds.Kind.TheVariants.{Cell, Queue, Registers, List as Ordered}
+use Rattle.rx_seq.specs.declared.calls.Row.{Row}
+use Rattle.rx_seq.specs.declared.calls.Call.TheVariants.{Get, Set, Add, Swap, Put, Take, Insert, Remove, Has, Read, Shift, Multi}
+use Rattle.rx_seq.specs.declared.replies.Reply.TheVariants.{Done, Over, Differs, Full, Empty, Added, Present, Removed, Absent, Yes, No, Short}
+use Rattle.rx_set.specs.declared.policies.Policy.TheVariants.{Rm}
+use Rattle.rx_set.specs.declared.items.Item.{Item}
+use Rattle.rx_set.specs.declared.items.Item.TheVariants.{Work, Op}
+use Rattle.rx_set.specs.declared.jobs.Job.{Job}
+use Rattle.rx_set.specs.System.{System, ObjectRow, TaskRow}
+use Rattle.rx_tick.specs.declared.events.Event.TheVariants.{Miss, Reply, Retry}
+use Rattle.rx_report.specs.Lines.{call_text, event_line, kind_word, object_line, reply_text}
+use Rattle.rx_report.specs.Report.{misses_told, report}
+
+abbrev task : List ℕ → ℕ → ℕ → List Item → TaskRow
+task name period offset items = record { name = name; period = period; deadline = period; offset = offset; items = items }
+
+abbrev object : List ℕ → Kind → ℕ → ObjectRow
+object name kind cap = record { name = name; part = record { kind = kind; cap = cap } }
+
+abbrev job : ℕ → ℕ → Job
+job task number = record { task = task; number = number }
+
+abbrev row : ℕ → ℕ → ℕ → Row
+row i old new = record { i = i; old = old; new = new }
+
+-- two tasks with work alone
+abbrev work_alone : System
+work_alone = record {
+  policy = Rm;
+  objects = [];
+  tasks = task (codes "a") 4 1 (Work 1 ∷ []) ∷ task (codes "b") 8 0 (Work 3 ∷ []) ∷ [];
+  demands = [];
+}
+
+pub work_alone_report : report work_alone 10 ≡
+    codes "0 release b 1\n1 release a 1\n1 preempt b 1 by a 1\n1 finish a 1\n3 finish b 1\n5 release a 2\n5 finish a 2\n8 release b 2\n9 release a 3\n9 preempt b 2 by a 3\n9 finish a 3\ntotal ticks 10 idle 3 released 5 finished 4 replies 0 retries 0 preempted 2 missed 0\n"
+unfolding digits
+work_alone_report = refl
+
+-- b's first attempt is spoiled by a, which preempts it
+abbrev retried : System
+retried = record {
+  policy = Rm;
+  objects = object (codes "c") Cell 1 ∷ [];
+  tasks = task (codes "a") 10 2 (Op 0 (Add 1) ∷ []) ∷ task (codes "b") 20 0 (Work 1 ∷ Op 0 (Add 5) ∷ Work 1 ∷ []) ∷ [];
+  demands = [];
+}
+
+pub retried_report : report retried 10 ≡
+    codes "0 release b 1\n2 release a 1\n2 preempt b 1 by a 1\n3 reply a 1 1 add c 1 -> done 1 tag 1\n3 finish a 1\n4 retry b 1 2 c tag 0 now 1\n6 reply b 1 2 add c 5 -> done 6 tag 2\n7 finish b 1\nobject c cell tag 2 state 6\ntotal ticks 10 idle 2 released 2 finished 2 replies 2 retries 1 preempted 1 missed 0\n"
+unfolding digits
+retried_report = refl
+
+-- more work than the processor has: the miss at the end of the run is told too
+abbrev overload : System
+overload = record { policy = Rm; objects = []; tasks = task (codes "late") 2 0 (Work 3 ∷ []) ∷ []; demands = [] }
+
+pub overload_report : report overload 4 ≡
+    codes "0 release late 1\n2 miss late 1\n2 release late 2\n2 finish late 1\n4 miss late 2\ntotal ticks 4 idle 0 released 2 finished 1 replies 0 retries 0 preempted 0 missed 2\n"
+unfolding digits
+overload_report = refl
+
+pub overload_misses : misses_told overload 4 ≡ 2
+overload_misses = refl
+
+-- a queue and registers, a call on each of them, and an item of work
+abbrev called : System
+called = record {
+  policy = Rm;
+  objects = object (codes "q") Queue 4 ∷ object (codes "r") Registers 4 ∷ [];
+  tasks = task (codes "t") 100 0 (Op 0 Take ∷ Op 1 (Multi 2 (row 0 1 5 ∷ row 3 0 70 ∷ row 0 0 0 ∷ row 0 0 0 ∷ [])) ∷ Op 1 (Shift 2 1 10) ∷ Work 8 ∷ []) ∷ [];
+  demands = [];
+}
+
+-- each kind of call, its object first
+pub call_texts : map (call_text (codes "o"))
+    (Get ∷ Set 1 ∷ Add 2 ∷ Swap 3 16777215 ∷ Put 5 ∷ Take ∷ Insert 6 ∷ Remove 7 ∷ Has 8 ∷ Read 9 ∷ Shift 1 2 30
+    ∷ Multi 4 (row 3 0 1 ∷ row 2 4 5 ∷ row 1 6 7 ∷ row 0 8 9 ∷ []) ∷ []) ≡
+    codes "get o" ∷ codes "set o 1" ∷ codes "add o 2" ∷ codes "swap o 3 16777215" ∷ codes "put o 5" ∷ codes "take o" ∷ codes "insert o 6"
+    ∷ codes "remove o 7" ∷ codes "has o 8" ∷ codes "read o 9" ∷ codes "shift o 1 2 30" ∷ codes "multi o 3 0 1 2 4 5 1 6 7 0 8 9" ∷ []
+unfolding digits
+call_texts = refl
+
+pub kind_words : map kind_word (Cell ∷ Queue ∷ Ordered ∷ Registers ∷ []) ≡ codes "cell" ∷ codes "queue" ∷ codes "list" ∷ codes "registers" ∷ []
+kind_words = refl
+
+pub reply_texts : map reply_text (Done 16777215 ∷ Over ∷ Differs 0 ∷ Full ∷ Empty ∷ Added ∷ Present ∷ Removed ∷ Absent ∷ Yes ∷ No ∷ Short 0 ∷ []) ≡
+    codes "done 16777215" ∷ codes "over" ∷ codes "differs 0" ∷ codes "full" ∷ codes "empty" ∷ codes "added" ∷ codes "present" ∷ codes "removed"
+    ∷ codes "absent" ∷ codes "yes" ∷ codes "no" ∷ codes "short 0" ∷ []
+unfolding digits
+reply_texts = refl
+
+pub line_empty : event_line called (Reply 13 0 (job 0 1) 1 Empty 1) ≡ codes "13 reply t 1 1 take q -> empty tag 1\n"
+unfolding digits
+line_empty = refl
+
+pub line_multi : event_line called (Reply 27 14 (job 0 1) 2 (Done 2) 7) ≡ codes "27 reply t 1 2 multi r 0 1 5 3 0 70 -> done 2 tag 7\n"
+unfolding digits
+line_multi = refl
+
+pub line_shift : event_line called (Reply 41 28 (job 0 1) 3 (Short 0) 8) ≡ codes "41 reply t 1 3 shift r 2 1 10 -> short 0 tag 8\n"
+unfolding digits
+line_shift = refl
+
+pub line_retry : event_line called (Retry 41 28 (job 0 12) 3 8 10) ≡ codes "41 retry t 12 3 r tag 8 now 10\n"
+unfolding digits
+line_retry = refl
+
+-- no call is shown for an item of work, and none where there is no item or no task
+pub line_work : event_line called (Reply 5 1 (job 0 1) 4 (Done 0) 1) ≡ codes "5 reply t 1 4 work 8 -> done 0 tag 1\n"
+unfolding digits
+line_work = refl
+
+pub line_no_item : event_line called (Retry 5 1 (job 0 1) 5 0 1) ≡ codes "5 retry t 1 5  tag 0 now 1\n"
+unfolding digits
+line_no_item = refl
+
+pub line_no_task : event_line called (Miss 5 (job 1 1)) ≡ codes "5 miss  1\n"
+unfolding digits
+line_no_task = refl
+
+pub line_empty_queue : object_line called 0 4 [] ≡ codes "object q queue tag 4 state\n"
+unfolding digits
+line_empty_queue = refl
+
+pub line_registers : object_line called 1 8 (6 ∷ 0 ∷ 0 ∷ 70 ∷ []) ≡ codes "object r registers tag 8 state 6 0 0 70\n"
+unfolding digits
+line_registers = refl

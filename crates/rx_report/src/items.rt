@@ -1,0 +1,49 @@
+// The text of an item.
+ghost use Rattle.std.specs.Prelude.{◌≡◌, ◌≤◌, ◌+◌, ◌++◌, length, Some, None, IfSome, IfNone};
+ghost use Rattle.rx_set.specs.Valid.{IsWork};
+ghost use Rattle.rx_report.specs.Lines.{item_of, item_text, object_text};
+
+use crate::jobs::task_of;
+use crate::lines::{Line, push_number, push_text};
+use rx_set::{Item, Job, TaskSet};
+
+/// An item of a job, by its number from 1. A set without objects has no operations.
+fn item_of(set: &TaskSet, job: Job, item: u32) -> Option<&Item>
+    ensures found { IfSome result (λ found. item_of set.now job item ≡ Some found.now) }
+    ensures none { IfNone result (item_of set.now job item ≡ None) }
+    ensures work { IfSome result (λ found. IsWork found.now) }
+{
+    match task_of(set, job) {
+        Some(task) => task.body.items().get(item.saturating_sub(1) as usize),
+        None => None,
+    }
+}
+
+/// Appends what an item asks for, and nothing where there is no such item.
+pub(crate) fn push_item(set: &TaskSet, job: Job, item: u32, line: &mut Line)
+    requires { length line.old.items + 25 ≤ 1024 }
+    ensures text { line.new.items ≡ line.old.items ++ item_text set.now (item_of set.now job item) }
+    ensures few { length line.new.items ≤ length line.old.items + 25 }
+{
+    match item_of(set, job, item) {
+        Some(Item::Work { n }) => {
+            push_text(line, b"work ");
+            push_number(line, *n);
+        }
+        Some(Item::Op { .. }) => unreachable!(),
+        None => {}
+    }
+}
+
+/// Appends the name of the object that an item calls, and nothing where it calls none. A name has at
+/// most 16 bytes.
+pub(crate) fn push_object(set: &TaskSet, job: Job, item: u32, line: &mut Line)
+    requires { length line.old.items + 16 ≤ 1024 }
+    ensures text { line.new.items ≡ line.old.items ++ object_text set.now (item_of set.now job item) }
+    ensures few { length line.new.items ≤ length line.old.items + 16 }
+{
+    match item_of(set, job, item) {
+        Some(Item::Op { .. }) => unreachable!(),
+        Some(Item::Work { .. }) | None => {}
+    }
+}
