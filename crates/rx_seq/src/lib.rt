@@ -5,9 +5,11 @@
 mod calls;
 mod entries;
 mod kinds;
+mod memory;
 mod replies;
 
 pub use calls::{Call, Row};
 pub use entries::Entry;
 pub use kinds::{Kind, Part};
+pub use memory::NoMemory;
 pub use replies::Reply;
