@@ -169,16 +169,16 @@ best_offered system states (suc tasks) h =
     by_test false e before = before
 
 -- so it is one that can be asked for
-pub best_known : (system : System) (now : ℕ) (states : List State) (tasks : ℕ) → AreOffers system now states → now < 2 ^ 40 → tasks ≤ length states → ForSome (best_of system tasks states) (IsJob system)
-best_known system now states tasks kept early h = λ x e.
+pub best_known : (system : System) (states : List State) (tasks : ℕ) → AreOffers system states → tasks ≤ length states → ForSome (best_of system tasks states) (IsJob system)
+best_known system states tasks kept h = λ x e.
     let o = best_offered system states tasks h x e in record {
       task = omega (arith, o.task, kept.count);
       number = (omega (arith, o.number), omega (arith, o.number, o.released, kept.few x.task (omega (arith, o.task, kept.count))));
     }
 
-pub offers_from : (system : System) (past : List Slot) (now : ℕ) (states : List State) → AreStates system past (now + 1) states → AreOffers system now states
-offers_from system past now states kept = record {
+pub offers_from : (system : System) (past : List Slot) (now : ℕ) (states : List State) → AreStates system past (now + 1) states → now < 2 ^ 40 → AreOffers system states
+offers_from system past now states kept early = record {
   of = kept.of;
   count = kept.count;
-  few = λ task known. released_bound system past (now + 1) task (state_at states task) (kept.each task known) kept.of.valid known;
+  few = λ task known. omega (arith, released_bound system past (now + 1) task (state_at states task) (kept.each task known) kept.of.valid known);
 }

@@ -441,6 +441,13 @@ preempted_is system past now last best mine by is e f comes =
     ∙ ap (λ (b : Bool). if b then Preempt (length past) mine by ∷ [] else []) comes
     ∙ ap (λ (n : ℕ). Preempt n mine by ∷ []) is
 
+pub preempted_not : (system : System) (past : List Slot) (last best : Option Job) (mine by : Job) → last ≡ Some mine → best ≡ Some by → (not (same mine by) && not (is_finished system past mine)) ≡ false
+    → preempted system past last best ≡ []
+preempted_not system past last best mine by e f comes =
+    ap (λ (o : Option Job). preempted system past o best) e
+    ∙ ap (preempted system past (Some mine)) f
+    ∙ ap (λ (b : Bool). if b then Preempt (length past) mine by ∷ [] else []) comes
+
 pub preempts_is : (system : System) (past : List Slot) (mine by : Job) (below : Bool) → same mine by ≡ false → is_finished system past mine ≡ not below → below ≡ (not (same mine by) && not (is_finished system past mine))
 preempts_is system past mine by below apart finished =
     twice below
