@@ -2,3 +2,5 @@ pub mod Lists
 pub mod Told
 pub mod Chosen
 pub mod Moves
+pub mod Prefixes
+pub mod Choices

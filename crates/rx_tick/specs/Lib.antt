@@ -3,3 +3,4 @@ pub mod Events
 pub mod Counts
 pub mod States
 pub mod Rows
+pub mod Laws
