@@ -16,10 +16,10 @@ use Rattle.rx_tick.specs.Schedule.{Slot, Idle, Busy, Decide, Progress, Asked, jo
 use Rattle.rx_tick.specs.Laws.{who, finished_before, IsPendingAt, IsLeastAt}
 use Rattle.rx_tick.proofs.Prefixes.{slots_count}
 
-some_same : (a b : Job) → Some a ≡ Some b → a ≡ b
+pub some_same : (a b : Job) → Some a ≡ Some b → a ≡ b
 some_same a b e = cc
 
-none_not : (a : Job) → None ≡ Some a → ⊥
+pub none_not : (a : Job) → None ≡ Some a → ⊥
 none_not a e = cc
 
 abbrev In : {X : Type 0} → X → List X → Type 0
@@ -153,12 +153,12 @@ owner system past (Some job) = by_end (decides system (item_at system job (progr
 pub who_is : (system : System) (n : ℕ) → who system n ≡ chosen system (slots system n)
 who_is system n = owner system (slots system n) (chosen system (slots system n))
 
-both : (a b : Bool) → (a && b) ≡ true → (a ≡ true) × (b ≡ true)
+pub both : (a b : Bool) → (a && b) ≡ true → (a ≡ true) × (b ≡ true)
 both true true e = (refl, refl)
 both true false e = absurd (false≢true e)
 both false b e = absurd (false≢true e)
 
-not_true : (b : Bool) → not b ≡ true → b ≡ false
+pub not_true : (b : Bool) → not b ≡ true → b ≡ false
 not_true true e = absurd (false≢true e)
 not_true false e = refl
 

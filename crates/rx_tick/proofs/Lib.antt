@@ -4,3 +4,6 @@ pub mod Chosen
 pub mod Moves
 pub mod Prefixes
 pub mod Choices
+pub mod Steps
+pub mod Preemptions
+pub mod Shares

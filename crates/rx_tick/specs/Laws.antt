@@ -1,5 +1,5 @@
 -- The words of the laws of the schedule.
-use Rattle.std.specs.Prelude.{ℕ, zero, suc, ◌+◌, ◌≡◌, ◌≤◌, ◌<◌, ◌==◌, Bool, true, false, if◌then◌else◌, List, [], ◌∷◌, ◌++◌, Option, Some, None}
+use Rattle.std.specs.Prelude.{ℕ, zero, suc, ◌+◌, ◌≡◌, ◌≢◌, ◌≤◌, ◌<◌, ◌==◌, Bool, true, false, if◌then◌else◌, List, [], ◌∷◌, ◌++◌, Option, Some, None}
 use Rattle.rx_seq.specs.declared.entries.Entry.{Entry}
 use Rattle.rx_set.specs.declared.items.Item.{Item}
 use Rattle.rx_set.specs.declared.items.Item.TheVariants.{Work, Op}
@@ -29,6 +29,15 @@ pub record IsPendingAt (system : System) (n : ℕ) (job : Job) : Type 0 where
 pub record IsLeastAt (system : System) (n : ℕ) (job : Job) : Type 0 where
   pub pending : IsPendingAt system n job
   pub least : (other : Job) → IsPendingAt system n other → is_below (key system other) (key system job) ≡ false
+
+-- a slot takes the processor from a job: the slot before was the job's, which is unfinished after it, and this one is another job's
+pub record IsPreemption (system : System) (at : ℕ) (job by : Job) : Type 0 where
+  pub before : ℕ
+  pub follows : at ≡ suc before
+  pub had : who system before ≡ Some job
+  pub unfinished : finished_before system job at ≡ false
+  pub has : who system at ≡ Some by
+  pub other : job ≢ by
 
 -- how many of the slots are the job's
 abbrev pub owned : Job → Option Job → ℕ

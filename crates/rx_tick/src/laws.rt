@@ -1,10 +1,14 @@
 //! Laws of the schedule. Each function does nothing: its contract is the law.
-ghost use Rattle.std.specs.Prelude.{ℕ, ◌≡◌, ◌≤◌, ◌<◌, ◌-◌, ◌↔◌, length, drop, slice_get, Some, None};
+ghost use Rattle.rx_set.specs.System.{System, is_below, key, release, task_of};
+ghost use Rattle.rx_set.specs.Valid.{IsJobOf, IsValid, IsWork};
+ghost use Rattle.rx_set.specs.declared.items.Item.{Item};
 ghost use Rattle.rx_set.specs.declared.jobs.Job.{Job};
-ghost use Rattle.rx_set.specs.System.{System};
-ghost use Rattle.rx_set.specs.Valid.{IsValid};
-ghost use Rattle.rx_tick.specs.Laws.{IsLeastAt, IsPendingAt, who};
+ghost use Rattle.rx_tick.specs.Events.{events};
+ghost use Rattle.rx_tick.specs.Laws.{IsLeastAt, IsPendingAt, IsPreemption, asked_up_to, finished_before, lost_ticks, slots_of, so_far, who};
 ghost use Rattle.rx_tick.specs.Schedule.{Idle, slot_at, slots};
+ghost use Rattle.rx_tick.specs.declared.events.Event.TheVariants.{Preempt};
+ghost use Rattle.std.specs.List.{Contains};
+ghost use Rattle.std.specs.Prelude.{ℕ, ◌≡◌, ◌≢◌, ◌≤◌, ◌<◌, ◌+◌, ◌-◌, ◌↔◌, length, drop, slice_get, Some, None, true, false};
 
 /// A longer schedule begins with the shorter one: slots never change once they are made. The list of the first n slots
 /// has n of them, the newest first, and slot n is the same in each list that has it.
@@ -19,4 +23,34 @@ pub fn schedules_extend()
 pub fn slots_go_to_the_least()
     ensures idle { (system : System) (n : ℕ) → IsValid system → (slot_at system n ≡ Idle) ↔ ((job : Job) → ¬ IsPendingAt system n job) }
     ensures busy { (system : System) (n : ℕ) (job : Job) → IsValid system → (who system n ≡ Some job) ↔ IsLeastAt system n job }
+{}
+
+/// The events tell each preemption, and only these. The job that preempts was released in that very slot, and its key is lower.
+pub fn preemptions_are_releases()
+    ensures told { (system : System) (n at : ℕ) (job by : Job) → at < n → Contains (events system n) (Preempt at job by) ↔ IsPreemption system at job by }
+    ensures released { (system : System) (n at : ℕ) (job by : Job) → IsValid system → Contains (events system n) (Preempt at job by) → release system by ≡ at }
+    ensures below { (system : System) (n at : ℕ) (job by : Job) → IsValid system → Contains (events system n) (Preempt at job by) → is_below (key system by) (key system job) ≡ true }
+{}
+
+/// The slots of a job are cut into its items in turn: what its complete items ask for, then what is in hand, beside the
+/// attempts that were lost. So a job that is finished has had exactly the ticks of its items and of its lost attempts,
+/// and one that is not finished fewer. A job without operations loses no attempt.
+pub fn jobs_take_their_items()
+    ensures cut { (system : System) (n : ℕ) (job : Job) →
+        slots_of job (slots system n) ≡ asked_up_to system job (so_far system job n).complete + (so_far system job n).made + lost_ticks system job (slots system n) }
+    ensures finished { (system : System) (n : ℕ) (job : Job) → finished_before system job n ≡ true →
+        slots_of job (slots system n) ≡ asked_up_to system job (length (task_of system job).items) + lost_ticks system job (slots system n) }
+    ensures unfinished { (system : System) (n : ℕ) (job : Job) → IsValid system → IsJobOf system job → finished_before system job n ≡ false →
+        slots_of job (slots system n) < asked_up_to system job (length (task_of system job).items) + lost_ticks system job (slots system n) }
+    ensures work { (system : System) (n : ℕ) (job : Job) → ((place : ℕ) (item : Item) → slice_get (task_of system job).items place ≡ Some item → IsWork item) →
+        lost_ticks system job (slots system n) ≡ 0 }
+{}
+
+/// A job that has a slot is one of the system's, was released at that slot or before, and is not finished. A job that is
+/// finished stays so, and has no later slot.
+pub fn nothing_runs_unreleased()
+    ensures known { (system : System) (n : ℕ) (job : Job) → who system n ≡ Some job → IsJobOf system job }
+    ensures released { (system : System) (n : ℕ) (job : Job) → who system n ≡ Some job → release system job ≤ n }
+    ensures stays { (system : System) (m n : ℕ) (job : Job) → m ≤ n → finished_before system job m ≡ true → finished_before system job n ≡ true }
+    ensures finished { (system : System) (m n : ℕ) (job : Job) → m ≤ n → finished_before system job m ≡ true → who system n ≢ Some job }
 {}
