@@ -1,9 +1,9 @@
 -- The pending job of least key, among jobs of any number.
-use Rattle.std.proofs.Common.{ℕ, zero, suc, ◌≡◌, ◌≢◌, ◌≤◌, ◌<◌, ◌+◌, ◌&&◌, ◌⊎◌, inl, inr, nat_le, not, Bool, true, false, cond, if◌then◌else◌, List, [], ◌∷◌, ◌++◌, length, filter, fold, Option, Some, None, refl, sym, ◌∙◌, ap, arith, subst, append-nil}
+use Rattle.std.proofs.Common.{ℕ, zero, suc, ◌≡◌, ◌≤◌, ◌<◌, ◌+◌, ◌&&◌, ◌⊎◌, inl, inr, nat_le, not, Bool, true, false, cond, if◌then◌else◌, List, [], ◌∷◌, ◌++◌, length, filter, fold, Option, Some, None, refl, sym, ◌∙◌, ap, arith, subst, append-nil}
 use Rattle.std.specs.List.{flat_map, All}
 use Rattle.std.specs.Option.{ForSome}
 use Rattle.std.proofs.Math.Decide.{dec_le}
-use Rattle.std.proofs.lemmas.Bool.{cases_Bool, le-leb, false≢true}
+use Rattle.std.proofs.lemmas.Bool.{le-leb, false≢true}
 use Rattle.std.proofs.lemmas.Bool.Decides.{nat_tests}
 use Rattle.std.proofs.lemmas.List.Elements.{All-nil, All-head, All-tail, All-append, All-push, All-same, All-filter, filter_passes}
 use Rattle.std.proofs.lemmas.Grind.{flat_map-append}
@@ -12,8 +12,8 @@ use Rattle.rx_set.specs.System.{System, key, is_below, release, numbers, item_at
 use Rattle.rx_set.specs.Valid.{IsValid, IsJobOf}
 use Rattle.rx_set.proofs.Keys.{below_not, below_trans, jobs_same}
 use Rattle.rx_set.proofs.Releases.{number_bound}
-use Rattle.rx_tick.specs.Schedule.{Slot, Idle, Busy, Decide, Progress, Asked, job_in, sooner, least, chosen, is_pending, is_finished, jobs_of, all_jobs, progress, slots, slot_at, slot_of, tick_of, tick_in, decides}
-use Rattle.rx_tick.specs.Laws.{who, finished_before, IsPendingAt, IsLeastAt}
+use Rattle.rx_tick.specs.Schedule.{Slot, Idle, Busy, Decide, Asked, job_in, sooner, chosen, is_pending, is_finished, jobs_of, all_jobs, progress, slots, slot_at, slot_of, tick_in, decides}
+use Rattle.rx_tick.specs.Laws.{who, IsPendingAt, IsLeastAt}
 use Rattle.rx_tick.proofs.Prefixes.{slots_count}
 
 pub some_same : (a b : Job) → Some a ≡ Some b → a ≡ b
@@ -37,9 +37,9 @@ in_right x (y ∷ ys) zs h = inr (in_right x ys zs h)
 in_filter : {X : Type 0} (p : X → Bool) (x : X) (ys : List X) → p x ≡ true → In x ys → In x (filter p ys)
 in_filter p x [] passes h = h
 in_filter p x (y ∷ ys) passes h = elim h [
-    inl here ↦ subst (λ (b : Bool). In x (cond b (y ∷ filter p ys) (filter p ys))) (sym (ap p here ∙ passes)) (inl here)
+  | inl here ↦ subst (λ (b : Bool). In x (cond b (y ∷ filter p ys) (filter p ys))) (sym (ap p here ∙ passes)) (inl here)
   | inr later ↦ step (p y) (in_filter p x ys passes later)
-  ]
+]
   where
     step : (b : Bool) → In x (filter p ys) → In x (cond b (y ∷ filter p ys) (filter p ys))
     step true i = inr i
@@ -48,33 +48,33 @@ in_filter p x (y ∷ ys) passes h = elim h [
 in_numbers : (k n : ℕ) → k < n → In k (numbers n)
 in_numbers k zero h = absurd (omega arith)
 in_numbers k (suc n) h = elim (dec_le n k) [
-    yes last ↦ in_right k (numbers n) (n ∷ []) (inl (omega arith))
+  | yes last ↦ in_right k (numbers n) (n ∷ []) (inl (omega arith))
   | no before ↦ in_left k (numbers n) (n ∷ []) (in_numbers k n (omega arith))
-  ]
+]
 
 in_jobs_of : (task k n : ℕ) → 1 ≤ k → k ≤ n → In (record { task = task; number = k }) (jobs_of task n)
 in_jobs_of task k zero low high = absurd (omega arith)
 in_jobs_of task k (suc n) low high = elim (dec_le k n) [
-    yes before ↦ in_left (record { task = task; number = k }) (jobs_of task n) (record { task = task; number = suc n } ∷ []) (in_jobs_of task k n low before)
+  | yes before ↦ in_left (record { task = task; number = k }) (jobs_of task n) (record { task = task; number = suc n } ∷ []) (in_jobs_of task k n low before)
   | no last ↦
-        let same : suc n ≡ k = omega arith in
-        let named : ℕ → Job = λ m. record { task = task; number = m } in
-        in_right (record { task = task; number = k }) (jobs_of task n) (record { task = task; number = suc n } ∷ []) (inl (ap named same))
-  ]
+      let same : suc n ≡ k = omega arith in
+      let named : ℕ → Job = λ m. record { task = task; number = m } in
+      in_right (record { task = task; number = k }) (jobs_of task n) (record { task = task; number = suc n } ∷ []) (inl (ap named same))
+]
 
 in_flat : (f : ℕ → List Job) (job : Job) (task : ℕ) (ts : List ℕ) → In task ts → In job (f task) → In job (flat_map f ts)
 in_flat f job task [] h i = elim h [ ]
 in_flat f job task (t ∷ ts) h i = elim h [
-    inl here ↦ in_left job (f t) (flat_map f ts) (subst (λ (k : ℕ). In job (f k)) (sym here) i)
+  | inl here ↦ in_left job (f t) (flat_map f ts) (subst (λ (k : ℕ). In job (f k)) (sym here) i)
   | inr later ↦ in_right job (f t) (flat_map f ts) (in_flat f job task ts later i)
-  ]
+]
 
 -- each job that is released by n is among those that are looked at
 in_all : (system : System) (n : ℕ) (job : Job) → IsValid system → IsJobOf system job → release system job ≤ n → In job (all_jobs system n)
 in_all system n job valid known h =
     in_flat (λ (task : ℕ). jobs_of task (n + 1)) job job.task (numbers (length system.tasks))
-        (in_numbers job.task (length system.tasks) known.task)
-        (in_jobs_of job.task job.number (n + 1) known.number (number_bound system job n valid known.task h))
+    (in_numbers job.task (length system.tasks) known.task)
+    (in_jobs_of job.task job.number (n + 1) known.number (number_bound system job n valid known.task h))
 
 -- what is found is not above a job
 record IsUpTo (system : System) (job : Job) (found : Option Job) : Type 0 where
@@ -88,6 +88,7 @@ up_to_sooner system job next found h = subst (λ (o : Option Job). IsUpTo system
     not_above : is_below (key system next) (key system h.one) ≡ true → (b : Bool) → is_below (key system job) (key system next) ≡ b → is_below (key system job) (key system next) ≡ false
     not_above lower true e = absurd (false≢true (sym h.below ∙ below_trans (key system job) (key system next) (key system h.one) e lower))
     not_above lower false e = e
+
     by_test : (b : Bool) → is_below (key system next) (key system h.one) ≡ b → IsUpTo system job (if b then Some next else Some h.one)
     by_test true e = record { one = next; is = refl; below = not_above e (is_below (key system job) (key system next)) refl }
     by_test false e = record { one = h.one; is = refl; below = h.below }
@@ -107,9 +108,9 @@ looked_at system job found (j ∷ js) h = looked_at system job (sooner system fo
 least_in : (system : System) (job : Job) (found : Option Job) (js : List Job) → In job js → IsUpTo system job (fold (sooner system) found js)
 least_in system job found [] h = elim h [ ]
 least_in system job found (j ∷ js) h = elim h [
-    inl here ↦ looked_at system job (sooner system found j) js (subst (λ (k : Job). IsUpTo system job (sooner system found k)) (sym here) (up_to_self system job found))
+  | inl here ↦ looked_at system job (sooner system found j) js (subst (λ (k : Job). IsUpTo system job (sooner system found k)) (sym here) (up_to_self system job found))
   | inr later ↦ least_in system job (sooner system found j) js later
-  ]
+]
 
 -- what is found is one of those that are looked at
 least_from : (system : System) (P : Job → Type 0) (found : Option Job) (js : List Job) → ForSome found P → All P js → ForSome (fold (sooner system) found js) P
@@ -118,9 +119,11 @@ least_from system P found (j ∷ js) known all = least_from system P (sooner sys
   where
     new : ForSome (Some j) P
     new = λ x e. subst P (some_same j x e) (All-head P j js all)
+
     by_test : (b : Bool) (best : Job) → ForSome (Some best) P → ForSome (if b then Some j else Some best) P
     by_test true best before = new
     by_test false best before = before
+
     one : (o : Option Job) → ForSome o P → ForSome (sooner system o j) P
     one None before = new
     one (Some best) before = by_test (is_below (key system j) (key system best)) best before
@@ -138,8 +141,8 @@ all_known tasks n zero h = All-nil (IsOf tasks)
 all_known tasks n (suc m) h =
     let before = flat_map (λ (task : ℕ). jobs_of task n) (numbers m) in
     All-same (IsOf tasks) (flat_map (λ (task : ℕ). jobs_of task n) (numbers (suc m))) (before ++ jobs_of m n)
-        (flat_map-append (λ (task : ℕ). jobs_of task n) (numbers m) (m ∷ []) ∙ ap (λ (js : List Job). before ++ js) (append-nil (jobs_of m n)))
-        (All-append (IsOf tasks) before (jobs_of m n) (all_known tasks n m (omega arith)) (jobs_known tasks m n (omega arith)))
+    (flat_map-append (λ (task : ℕ). jobs_of task n) (numbers m) (m ∷ []) ∙ ap (λ (js : List Job). before ++ js) (append-nil (jobs_of m n)))
+    (All-append (IsOf tasks) before (jobs_of m n) (all_known tasks n m (omega arith)) (jobs_known tasks m n (omega arith)))
 
 -- whose a slot is
 pub owner : (system : System) (past : List Slot) (found : Option Job) → job_in (slot_of system past found) ≡ found
@@ -171,11 +174,11 @@ who_pending system n job h =
     let past : List Slot = slots system n in
     let found : chosen system past ≡ Some job = sym (who_is system n) ∙ h in
     let passes : is_pending system past job ≡ true = least_from system (λ (j : Job). is_pending system past j ≡ true) None (filter (is_pending system past) (all_jobs system (length past)))
-            (λ x e. absurd (none_not x e)) (filter_passes (is_pending system past) (all_jobs system (length past))) job found in
+    (λ x e. absurd (none_not x e)) (filter_passes (is_pending system past) (all_jobs system (length past))) job found in
     let known : IsOf (length system.tasks) job = least_from system (IsOf (length system.tasks)) None (filter (is_pending system past) (all_jobs system (length past)))
-            (λ x e. absurd (none_not x e))
-            (All-filter (is_pending system past) (IsOf (length system.tasks)) (all_jobs system (length past)) (all_known (length system.tasks) (length past + 1) (length system.tasks) (omega arith)))
-            job found in
+    (λ x e. absurd (none_not x e))
+    (All-filter (is_pending system past) (IsOf (length system.tasks)) (all_jobs system (length past)) (all_known (length system.tasks) (length past + 1) (length system.tasks) (omega arith)))
+    job found in
     let parts = both (nat_le (release system job) (length past)) (not (is_finished system past job)) passes in
     record {
       known = record { task = known.0; number = known.1 };
@@ -193,9 +196,9 @@ up_to_pending : (system : System) (n : ℕ) (job : Job) → IsValid system → I
 up_to_pending system n job valid pending =
     let past : List Slot = slots system n in
     subst (IsUpTo system job) (sym (who_is system n))
-        (least_in system job None (filter (is_pending system past) (all_jobs system (length past)))
-            (in_filter (is_pending system past) job (all_jobs system (length past)) (pending_passes system n job pending)
-                (in_all system (length past) job valid pending.known (omega (arith, pending.released, slots_count system n)))))
+    (least_in system job None (filter (is_pending system past) (all_jobs system (length past)))
+    (in_filter (is_pending system past) job (all_jobs system (length past)) (pending_passes system n job pending)
+    (in_all system (length past) job valid pending.known (omega (arith, pending.released, slots_count system n)))))
 
 pub not_idle : (system : System) (n : ℕ) (job : Job) → IsValid system → IsPendingAt system n job → who system n ≡ None → ⊥
 not_idle system n job valid pending idle =
@@ -217,7 +220,7 @@ least_who system n job valid h =
     let other = who_pending system n found.one found.is in
     found.is ∙ ap Some (jobs_same system found.one job other.known.task h.pending.known.task (h.least found.one other) found.below)
 
-idle_none : (slot : Slot) → job_in slot ≡ None → slot ≡ Idle
+pub idle_none : (slot : Slot) → job_in slot ≡ None → slot ≡ Idle
 idle_none Idle e = refl
 idle_none (Busy job) e = absurd (none_not job (sym e))
 idle_none (Decide job object outcome) e = absurd (none_not job (sym e))

@@ -7,3 +7,5 @@ pub mod Choices
 pub mod Steps
 pub mod Preemptions
 pub mod Shares
+pub mod Attempts
+pub mod Entries

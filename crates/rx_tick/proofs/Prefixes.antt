@@ -1,8 +1,8 @@
 -- The first slots of a schedule.
-use Rattle.std.proofs.Common.{ℕ, zero, suc, ◌≡◌, ◌≤◌, ◌<◌, ◌+◌, ◌-◌, List, [], ◌∷◌, length, drop, Some, refl, sym, ◌∙◌, ap, arith}
+use Rattle.std.proofs.Common.{ℕ, zero, suc, ◌≡◌, ◌≤◌, ◌<◌, ◌+◌, ◌-◌, length, drop, Some, refl, ◌∙◌, ap, arith}
 use Rattle.std.specs.List.{slice_get}
 use Rattle.rx_set.specs.System.{System}
-use Rattle.rx_tick.specs.Schedule.{Slot, slots, slot_at}
+use Rattle.rx_tick.specs.Schedule.{slots, slot_at}
 
 -- a slot has as many slots behind it as its number says
 pub slots_count : (system : System) (n : ℕ) → length (slots system n) ≡ n

@@ -1,8 +1,6 @@
 -- The slots of a job are cut into its items in turn.
-use Rattle.std.proofs.Common.{ℕ, zero, suc, ◌≡◌, ◌≢◌, ◌≤◌, ◌<◌, ◌+◌, ◌-◌, ◌*◌, ◌==◌, ◌&&◌, nat_le, Bool, true, false, if◌then◌else◌, List, [], ◌∷◌, length, get_or, Option, Some, None, refl, sym, ◌∙◌, ap, arith, subst, add-one}
+use Rattle.std.proofs.Common.{ℕ, zero, suc, ◌≡◌, ◌≢◌, ◌≤◌, ◌<◌, ◌+◌, ◌-◌, ◌==◌, ◌&&◌, Bool, true, false, if◌then◌else◌, List, [], ◌∷◌, length, get_or, Option, Some, None, refl, sym, ◌∙◌, ap, arith, subst, add-one}
 use Rattle.std.specs.List.{slice_get}
-use Rattle.std.proofs.Math.Decide.{dec_le}
-use Rattle.std.proofs.lemmas.Bool.{false≢true}
 use Rattle.std.proofs.lemmas.Bool.Decides.{nat_tests}
 use Rattle.std.proofs.lemmas.Option.{slice_get-get_or}
 use Rattle.rx_seq.specs.declared.calls.Call.{Call}
@@ -14,10 +12,10 @@ use Rattle.rx_set.specs.declared.items.Item.TheVariants.{Work, Op}
 use Rattle.rx_set.specs.declared.jobs.Job.{Job}
 use Rattle.rx_set.specs.System.{System, DemandRow, task_of, parts_of, item_at, demanded, ticks_of, attempt_by, attempt_cost}
 use Rattle.rx_set.specs.Valid.{IsValid, IsJobOf, IsItem, IsWork}
-use Rattle.rx_tick.specs.Schedule.{Slot, Progress, start, completed, lost, ticked, progress, slots, slot_at}
+use Rattle.rx_tick.specs.Schedule.{Slot, Progress, progress, slots, slot_at}
 use Rattle.rx_tick.specs.Laws.{who, so_far, finished_before, owned, slots_of, asked_by, asked_up_to, lost_in, lost_ticks}
 use Rattle.rx_tick.proofs.Choices.{who_pending}
-use Rattle.rx_tick.proofs.Steps.{IsOther, IsOwn, Goes, Works, Loses, Wins, IsEither, Own, Other, either, item_in, made_in, same_self}
+use Rattle.rx_tick.proofs.Steps.{IsOwn, Goes, Works, Loses, Wins, IsEither, Own, Other, either, item_in, same_self}
 
 -- what the complete items ask for, and what is in hand
 abbrev brought : System → Job → Progress → ℕ
@@ -89,7 +87,7 @@ item_some system job place valid known inside =
     let item : Item = get_or (task_of system job).items place (Work 0) in
     let there : slice_get (task_of system job).items place ≡ Some item = slice_get-get_or (task_of system job).items place (Work 0) inside in
     subst (λ (o : Option Item). 1 ≤ asked_by system (demanded system.demands job (place + 1) o)) (sym there)
-        (asked_some system job (place + 1) valid item ((valid.tasks job.task known.task).items place item there))
+    (asked_some system job (place + 1) valid item ((valid.tasks job.task known.task).items place item there))
 
 -- no more than all items are complete, and then nothing is in hand
 record IsWithin (system : System) (job : Job) (p : Progress) : Type 0 where
@@ -163,6 +161,11 @@ finished_share system n job h =
     let up : asked_up_to system job (so_far system job n).complete ≡ asked_up_to system job (length (task_of system job).items) = ap (asked_up_to system job) same in
     omega (arith, cut system n job, w.done all, up)
 
+-- what an unfinished job has in hand is less than its item asks for
+pub in_hand_share : (system : System) (n : ℕ) (job : Job) → IsValid system → IsJobOf system job → finished_before system job n ≡ false
+    → (so_far system job n).made < asked_by system (item_at system job (so_far system job n).complete)
+in_hand_share system n job valid known h = small system job n valid known (not_done system job n h)
+
 -- and one that is not finished fewer
 pub unfinished_share : (system : System) (n : ℕ) (job : Job) → IsValid system → IsJobOf system job → finished_before system job n ≡ false
     → slots_of job (slots system n) < asked_up_to system job (length (task_of system job).items) + lost_ticks system job (slots system n)
@@ -185,8 +188,9 @@ none_lost system (suc n) job work = by_owner (either system n job) (none_lost sy
     by_own past slot (Works is all next) = ap (lost_in system job) is
     by_own past slot (Loses object call is item all spoiled next) =
         absurd (work (progress system job past).complete (Op object call)
-            (stated_op system.demands job ((progress system job past).complete + 1) object call (slice_get (task_of system job).items (progress system job past).complete) item))
+        (stated_op system.demands job ((progress system job past).complete + 1) object call (slice_get (task_of system job).items (progress system job past).complete) item))
     by_own past slot (Wins object call is item all calm next) = ap (lost_in system job) is
+
     by_owner : IsEither system n job → lost_ticks system job (slots system n) ≡ 0 → lost_ticks system job (slots system (suc n)) ≡ 0
     by_owner (Own mine own) before = omega (arith, before, by_own (slots system n) (slot_at system n) own)
     by_owner (Other not_mine h) before = omega (arith, before, h.kept)

@@ -1,6 +1,5 @@
 -- What one slot does to one job.
-use Rattle.std.proofs.Common.{ℕ, zero, suc, ◌≡◌, ◌≢◌, ◌≤◌, ◌<◌, ◌+◌, ◌-◌, ◌==◌, ◌&&◌, nat_le, Bool, true, false, if◌then◌else◌, List, [], ◌∷◌, length, Option, Some, None, refl, sym, ◌∙◌, ap, arith, subst}
-use Rattle.std.proofs.Math.Decide.{dec_le}
+use Rattle.std.proofs.Common.{ℕ, zero, suc, ◌≡◌, ◌≢◌, ◌≤◌, ◌+◌, ◌-◌, ◌==◌, Bool, true, false, if◌then◌else◌, List, ◌∷◌, length, Option, Some, None, refl, sym, ◌∙◌, ap, arith, subst}
 use Rattle.std.proofs.lemmas.Bool.{le-leb, false≢true}
 use Rattle.std.proofs.lemmas.Bool.Decides.{nat_tests}
 use Rattle.rx_seq.specs.declared.calls.Call.{Call}
@@ -10,10 +9,9 @@ use Rattle.rx_set.specs.declared.items.Item.{Item}
 use Rattle.rx_set.specs.declared.items.Item.TheVariants.{Work, Op}
 use Rattle.rx_set.specs.declared.jobs.Job.{Job}
 use Rattle.rx_set.specs.System.{System, task_of, parts_of, item_at, attempt_cost}
-use Rattle.rx_tick.specs.Schedule.{Slot, Idle, Busy, Decide, Progress, Asked, job_in, same, completed, lost, ticked, ends_work, after, progress, is_finished, history, won_after, decides, tick_in, slot_of, chosen, slots, slot_at}
+use Rattle.rx_tick.specs.Schedule.{Slot, Idle, Busy, Decide, Progress, job_in, same, completed, lost, ticked, ends_work, after, progress, history, won_after, decides, tick_in, slot_of, chosen, slots, slot_at}
 use Rattle.rx_tick.specs.Laws.{who, so_far, finished_before, asked_by, owned, lost_in}
-use Rattle.rx_tick.proofs.Prefixes.{slots_count}
-use Rattle.rx_tick.proofs.Choices.{who_is, owner, some_same, none_not}
+use Rattle.rx_tick.proofs.Choices.{who_is, some_same, none_not}
 
 pub same_self : (job : Job) → same job job ≡ true
 same_self job = grind (arith, nat_tests)
@@ -124,6 +122,7 @@ module _ (system : System) (past : List Slot) (job : Job) where
     where
       asked : asked_by system (item_in system past job) ≡ ticks
       asked = ap (asked_by system) f
+
       by_test : (b : Bool) → (made_in system past job + 1 == ticks) ≡ b → IsOwn system past job slot
       by_test true g =
           let all : made_in system past job + 1 ≡ ticks = grind (arith, nat_tests) in
@@ -135,13 +134,16 @@ module _ (system : System) (past : List Slot) (job : Job) where
     where
       asked : asked_by system (item_in system past job) ≡ attempt_cost system object
       asked = ap (asked_by system) f
+
       by_outcome : made_in system past job + 1 ≡ attempt_cost system object → (won : Bool) → won_after object (progress system job past).first past ≡ won
           → slot ≡ Decide job object (if won then None else Some (entry_after (parts_of system) (history past) job.task object call)) → IsOwn system past job slot
       by_outcome all true g d = Loses object call d f all g (lost_after slot object d)
       by_outcome all false g d = Wins object call d f all g (won_by slot object (entry_after (parts_of system) (history past) job.task object call) d)
+
       ends : (b : Bool) → (made_in system past job + 1 == attempt_cost system object) ≡ b
           → slot ≡ tick_in system past job (progress system job past) (if b then Some (record { object = object; call = call }) else None)
       ends b g = e ∙ ap (λ (t : Bool). tick_in system past job (progress system job past) (if t then Some (record { object = object; call = call }) else None)) g
+
       by_test : (b : Bool) → (made_in system past job + 1 == attempt_cost system object) ≡ b → IsOwn system past job slot
       by_test true g =
           let all : made_in system past job + 1 ≡ attempt_cost system object = grind (arith, nat_tests) in
@@ -189,11 +191,13 @@ either system n job = by_owner (who system n) refl
   where
     another : (slot : Slot) (other x : Job) → job_in slot ≡ Some other → same other job ≡ false → job_in slot ≡ Some x → same x job ≡ false
     another slot other x e differs f = ap (λ (j : Job). same j job) (some_same x other (sym f ∙ e)) ∙ differs
+
     by_same : (other : Job) → who system n ≡ Some other → (b : Bool) → same other job ≡ b → IsEither system n job
     by_same other e true s = let mine : who system n ≡ Some job = e ∙ ap Some (same_is other job s) in Own mine (own_at system n job mine)
     by_same other e false s =
         Other (λ f. false≢true (sym s ∙ ap (λ (j : Job). same j job) (some_same other job (sym e ∙ f)) ∙ same_self job))
-            (other_slot system (slots system n) job (slot_at system n) (λ x f. another (slot_at system n) other x e s f))
+        (other_slot system (slots system n) job (slot_at system n) (λ x f. another (slot_at system n) other x e s f))
+
     by_owner : (o : Option Job) → who system n ≡ o → IsEither system n job
     by_owner None e =
         Other (λ f. none_not job (sym e ∙ f)) (other_slot system (slots system n) job (slot_at system n) (λ x f. absurd (none_not x (sym e ∙ f))))

@@ -4,3 +4,4 @@ pub mod Counts
 pub mod States
 pub mod Rows
 pub mod Laws
+pub mod LawRows
