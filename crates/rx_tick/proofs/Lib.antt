@@ -3,3 +3,10 @@ pub mod Told
 pub mod Chosen
 pub mod Moves
 pub mod Firsts
+pub mod Prefixes
+pub mod Choices
+pub mod Steps
+pub mod Preemptions
+pub mod Shares
+pub mod Attempts
+pub mod Entries

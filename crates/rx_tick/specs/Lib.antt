@@ -4,3 +4,5 @@ pub mod Counts
 pub mod States
 pub mod Executive
 pub mod Rows
+pub mod Laws
+pub mod LawRows

@@ -16,7 +16,7 @@ use Rattle.rx_tick.specs.Events.{events, misses}
 abbrev task : ℕ → ℕ → List Item → TaskRow
 task period offset items = record { name = codes "t"; period = period; deadline = period; offset = offset; items = items }
 
-abbrev job : ℕ → ℕ → Job
+abbrev pub job : ℕ → ℕ → Job
 job task number = record { task = task; number = number }
 
 abbrev cell : ObjectRow
@@ -26,7 +26,7 @@ abbrev queue : ObjectRow
 queue = record { name = codes "q"; part = record { kind = Queue; cap = 1 } }
 
 -- two tasks with work alone: a of period 4 from 1 on, b of period 8
-abbrev work_alone : System
+abbrev pub work_alone : System
 work_alone = record { policy = Rm; objects = []; tasks = task 4 1 (Work 1 ∷ []) ∷ task 8 0 (Work 3 ∷ []) ∷ []; demands = [] }
 
 pub work_alone_events : events work_alone 10 ≡
@@ -46,7 +46,7 @@ pub overload_late : misses overload (slots overload 6) ≡ Miss 6 (job 0 3) ∷ 
 overload_late = refl
 
 -- b's first attempt is spoiled by a, which preempts it
-abbrev retried : System
+abbrev pub retried : System
 retried = record {
   policy = Rm;
   objects = cell ∷ [];

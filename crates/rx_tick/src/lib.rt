@@ -3,6 +3,7 @@
 
 mod events;
 mod executive;
+pub mod laws;
 mod looks;
 mod slots;
 mod states;

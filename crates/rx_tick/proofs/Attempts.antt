@@ -1,0 +1,187 @@
+-- Attempts on objects: their slots and their outcomes.
+use Rattle.std.proofs.Common.{ℕ, zero, suc, ◌≡◌, ◌≤◌, ◌<◌, ◌+◌, ◌==◌, ◌&&◌, ◌||◌, ◌⊎◌, inl, inr, nat_lt, Bool, true, false, if◌then◌else◌, length, Option, Some, None, refl, sym, ◌∙◌, ap, arith, subst}
+use Rattle.std.proofs.Math.Decide.{dec_le}
+use Rattle.std.proofs.lemmas.Bool.{false≢true}
+use Rattle.std.proofs.lemmas.Bool.Decides.{nat_tests}
+use Rattle.rx_seq.specs.declared.calls.Call.{Call}
+use Rattle.rx_seq.specs.declared.entries.Entry.{Entry}
+use Rattle.rx_seq.specs.History.{entry_after}
+use Rattle.rx_set.specs.declared.items.Item.TheVariants.{Op}
+use Rattle.rx_set.specs.declared.jobs.Job.{Job}
+use Rattle.rx_set.specs.System.{System, parts_of, item_at, attempt_cost}
+use Rattle.rx_tick.specs.Schedule.{Slot, Busy, Decide, Progress, ticked, job_in, history, wins_on, won_after, slots, slot_at}
+use Rattle.rx_tick.specs.Laws.{who, so_far, owned, slots_of, IsSpoiled}
+use Rattle.rx_tick.proofs.Prefixes.{slots_count}
+use Rattle.rx_tick.proofs.Steps.{IsOwn, Goes, Works, Loses, Wins, IsEither, Own, Other, either, own_at, same_self}
+use Rattle.rx_tick.proofs.Shares.{cost_some}
+
+-- what a job has in hand before slot n was begun in one of its slots, and all its slots since then are in hand
+pub record IsBegun (system : System) (job : Job) (n : ℕ) (p : Progress) : Type 0 where
+  pub before : p.first < n
+  pub begins : slot_at system p.first ≡ Busy job
+  pub fresh : (so_far system job p.first).made ≡ 0
+  pub item : (so_far system job p.first).complete ≡ p.complete
+  pub counts : slots_of job (slots system n) ≡ slots_of job (slots system p.first) + p.made
+
+one_slot : (system : System) (job : Job) (n : ℕ) → who system n ≡ Some job → slots_of job (slots system (suc n)) ≡ slots_of job (slots system n) + 1
+one_slot system job n mine = ap (λ (k : ℕ). slots_of job (slots system n) + k) (ap (owned job) mine ∙ ap (λ (b : Bool). if b then 1 else 0) (same_self job))
+
+begun_more : (system : System) (job : Job) (n m : ℕ) (p : Progress) → who system n ≡ Some job → slot_at system n ≡ Busy job → m ≡ n → p ≡ so_far system job n
+    → (1 ≤ p.made → IsBegun system job n p) → IsBegun system job (suc n) (ticked m p)
+begun_more system job n m p mine is same_time same_progress before = by_test (p.made == 0) refl
+  where
+    here : p.made ≡ 0 → IsBegun system job (suc n) (record { complete = p.complete; made = p.made + 1; first = m })
+    here none =
+        let made_none : (so_far system job n).made ≡ 0 = sym (ap (λ (q : Progress). q.made) same_progress) ∙ none in
+        let counted : slots_of job (slots system m) ≡ slots_of job (slots system n) = ap (λ (k : ℕ). slots_of job (slots system k)) same_time in
+        record {
+          before = omega arith;
+          begins = ap (slot_at system) same_time ∙ is;
+          fresh = ap (λ (k : ℕ). (so_far system job k).made) same_time ∙ made_none;
+          item = ap (λ (k : ℕ). (so_far system job k).complete) same_time ∙ ap (λ (q : Progress). q.complete) (sym same_progress);
+          counts = omega (arith, one_slot system job n mine, counted);
+        }
+
+    there : IsBegun system job n p → IsBegun system job (suc n) (record { complete = p.complete; made = p.made + 1; first = p.first })
+    there h = record { before = omega (arith, h.before); begins = h.begins; fresh = h.fresh; item = h.item; counts = omega (arith, one_slot system job n mine, h.counts) }
+
+    by_test : (b : Bool) → (p.made == 0) ≡ b → IsBegun system job (suc n) (record { complete = p.complete; made = p.made + 1; first = if b then m else p.first })
+    by_test true e = let none : p.made ≡ 0 = grind (arith, nat_tests) in here none
+    by_test false e = let some : 1 ≤ p.made = grind (arith, nat_tests) in there (before some)
+
+-- of what is in hand after a slot
+abbrev IsHeld : System → Job → ℕ → Progress → Type 0
+IsHeld system job n p = 1 ≤ p.made → IsBegun system job n p
+
+held_own : (system : System) (job : Job) (n : ℕ) → who system n ≡ Some job → IsOwn system (slots system n) job (slot_at system n) → IsHeld system job n (so_far system job n) → IsHeld system job (suc n) (so_far system job (suc n))
+held_own system job n mine (Goes is some next) before =
+    subst (IsHeld system job (suc n)) (sym next) (λ more. begun_more system job n (length (slots system n)) (so_far system job n) mine is (slots_count system n) refl before)
+held_own system job n mine (Works is all next) before = subst (IsHeld system job (suc n)) (sym next) (λ more. absurd (omega arith))
+held_own system job n mine (Loses object call is item all spoiled next) before = subst (IsHeld system job (suc n)) (sym next) (λ more. absurd (omega arith))
+held_own system job n mine (Wins object call is item all calm next) before = subst (IsHeld system job (suc n)) (sym next) (λ more. absurd (omega arith))
+
+held_other : (system : System) (job : Job) (n : ℕ) (p : Progress) → owned job (who system n) ≡ 0 → IsHeld system job n p → IsHeld system job (suc n) p
+held_other system job n p none before = λ some.
+    let h : IsBegun system job n p = before some in
+    record { before = omega (arith, h.before); begins = h.begins; fresh = h.fresh; item = h.item; counts = omega (arith, h.counts, none) }
+
+pub held : (system : System) (job : Job) (n : ℕ) → IsHeld system job n (so_far system job n)
+held system job zero = λ some. absurd (omega arith)
+held system job (suc n) = by_owner (either system n job) (held system job n)
+  where
+    by_owner : IsEither system n job → IsHeld system job n (so_far system job n) → IsHeld system job (suc n) (so_far system job (suc n))
+    by_owner (Own mine own) before = held_own system job n mine own before
+    by_owner (Other not_mine h) before = subst (IsHeld system job (suc n)) (sym h.stays) (held_other system job n (so_far system job n) h.none before)
+
+-- what a slot that decides an attempt says
+pub record IsDecision (system : System) (n : ℕ) (job : Job) (object : ℕ) (outcome : Option Entry) : Type 0 where
+  pub owner : who system n ≡ Some job
+  pub call : Call
+  pub asks : item_at system job (so_far system job n).complete ≡ Some (Op object call)
+  pub made : (so_far system job n).made + 1 ≡ attempt_cost system object
+  pub lost : outcome ≡ None → won_after object (so_far system job n).first (slots system n) ≡ true
+  pub spoiled : won_after object (so_far system job n).first (slots system n) ≡ true → outcome ≡ None
+
+not_busy : (mine job : Job) (object : ℕ) (outcome : Option Entry) (slot : Slot) → slot ≡ Decide job object outcome → slot ≡ Busy mine → ⊥
+not_busy mine job object outcome slot e f = cc
+
+not_won : (entry : Entry) (outcome : Option Entry) → outcome ≡ Some entry → outcome ≡ None → ⊥
+not_won entry outcome e f = cc
+
+pub decision_is : (system : System) (n : ℕ) (job : Job) (object : ℕ) (outcome : Option Entry) → slot_at system n ≡ Decide job object outcome → IsDecision system n job object outcome
+decision_is system n job object outcome e = by_own (slot_at system n) e (own_at system n job mine)
+  where
+    mine : who system n ≡ Some job
+    mine = ap job_in e
+
+    by_own : (slot : Slot) → slot ≡ Decide job object outcome → IsOwn system (slots system n) job slot → IsDecision system n job object outcome
+    by_own slot e (Goes is some next) = absurd (not_busy job job object outcome slot e is)
+    by_own slot e (Works is all next) = absurd (not_busy job job object outcome slot e is)
+    by_own slot e (Loses other call is item all spoiled next) =
+        let object_is : other ≡ object = cc in
+        let none : outcome ≡ None = cc in
+        record {
+          owner = mine;
+          call = call;
+          asks = item ∙ ap (λ (o : ℕ). Some (Op o call)) object_is;
+          made = all ∙ ap (attempt_cost system) object_is;
+          lost = λ h. ap (λ (o : ℕ). won_after o (so_far system job n).first (slots system n)) (sym object_is) ∙ spoiled;
+          spoiled = λ h. none;
+        }
+    by_own slot e (Wins other call is item all calm next) =
+        let object_is : other ≡ object = cc in
+        let entry : Entry = entry_after (parts_of system) (history (slots system n)) job.task other call in
+        let some : outcome ≡ Some entry = cc in
+        record {
+          owner = mine;
+          call = call;
+          asks = item ∙ ap (λ (o : ℕ). Some (Op o call)) object_is;
+          made = all ∙ ap (attempt_cost system) object_is;
+          lost = λ h. absurd (not_won entry outcome some h);
+          spoiled = λ h. absurd (false≢true (sym calm ∙ ap (λ (o : ℕ). won_after o (so_far system job n).first (slots system n)) object_is ∙ h));
+        }
+
+-- an attempt that is decided was in hand
+pub decided_begun : (system : System) (n : ℕ) (job : Job) (object : ℕ) (outcome : Option Entry) → slot_at system n ≡ Decide job object outcome → IsBegun system job n (so_far system job n)
+decided_begun system n job object outcome e = held system job n (omega (arith, (decision_is system n job object outcome e).made, cost_some system object))
+
+-- it has as many slots of its job as an attempt takes, from its first to this one
+pub decided_cost : (system : System) (n : ℕ) (job : Job) (object : ℕ) (outcome : Option Entry) → slot_at system n ≡ Decide job object outcome
+    → slots_of job (slots system (suc n)) ≡ slots_of job (slots system (so_far system job n).first) + attempt_cost system object
+decided_cost system n job object outcome e =
+    let is = decision_is system n job object outcome e in
+    let begun = decided_begun system n job object outcome e in
+    omega (arith, one_slot system job n is.owner, begun.counts, is.made)
+
+or_cases : (a b : Bool) → (a || b) ≡ true → (a ≡ true) ⊎ (b ≡ true)
+or_cases true b e = inl refl
+or_cases false b e = inr e
+
+and_both : (a b : Bool) → (a && b) ≡ true → (a ≡ true) × (b ≡ true)
+and_both true true e = (refl, refl)
+and_both true false e = absurd (false≢true e)
+and_both false b e = absurd (false≢true e)
+
+or_right : (a b : Bool) → b ≡ true → (a || b) ≡ true
+or_right true b e = refl
+or_right false b e = e
+
+-- a win after a slot, by its number
+pub won_at : (system : System) (object first n : ℕ) → won_after object first (slots system n) ≡ true → IsSpoiled system object first n
+won_at system object first zero e = absurd (false≢true e)
+won_at system object first (suc n) e =
+    elim (or_cases (wins_on object (slot_at system n) && nat_lt first (length (slots system n))) (won_after object first (slots system n)) e) [
+      | inl here ↦
+          let parts = and_both (wins_on object (slot_at system n)) (nat_lt first (length (slots system n))) here in
+          let counted : length (slots system n) ≡ n = slots_count system n in
+          let later : first < length (slots system n) = later_than first (length (slots system n)) parts.1 in
+          record { at = n; after = omega arith; before = omega arith; wins = parts.0 }
+      | inr earlier ↦ let h = won_at system object first n earlier in record { at = h.at; after = h.after; before = omega (arith, h.before); wins = h.wins }
+    ]
+  where
+    later_than : (a b : ℕ) → nat_lt a b ≡ true → a < b
+    later_than a b h = grind (arith, nat_tests)
+
+pub won_from : (system : System) (object first n : ℕ) → IsSpoiled system object first n → won_after object first (slots system n) ≡ true
+won_from system object first zero h = absurd (omega (arith, h.before))
+won_from system object first (suc n) h = elim (dec_le n h.at) [
+  | yes now ↦
+      let same_time : h.at ≡ n = omega (arith, h.before) in
+      let wins : wins_on object (slot_at system n) ≡ true = subst (λ (t : ℕ). wins_on object (slot_at system t) ≡ true) same_time h.wins in
+      let later : nat_lt first (length (slots system n)) ≡ true = later_than first (length (slots system n)) (omega (arith, h.after, slots_count system n)) in
+      ap (λ (b : Bool). (b && nat_lt first (length (slots system n))) || won_after object first (slots system n)) wins
+      ∙ ap (λ (b : Bool). b || won_after object first (slots system n)) later
+  | no before ↦
+      or_right (wins_on object (slot_at system n) && nat_lt first (length (slots system n))) (won_after object first (slots system n))
+      (won_from system object first n (record { at = h.at; after = h.after; before = omega arith; wins = h.wins }))
+]
+  where
+    later_than : (a b : ℕ) → a < b → nat_lt a b ≡ true
+    later_than a b h = grind (arith, nat_tests)
+
+-- an attempt is lost where one on its object won in between, and only there
+pub lost_spoiled : (system : System) (n : ℕ) (job : Job) (object : ℕ) (outcome : Option Entry) → slot_at system n ≡ Decide job object outcome → outcome ≡ None → IsSpoiled system object (so_far system job n).first n
+lost_spoiled system n job object outcome e none = won_at system object (so_far system job n).first n ((decision_is system n job object outcome e).lost none)
+
+pub spoiled_lost : (system : System) (n : ℕ) (job : Job) (object : ℕ) (outcome : Option Entry) → slot_at system n ≡ Decide job object outcome → IsSpoiled system object (so_far system job n).first n → outcome ≡ None
+spoiled_lost system n job object outcome e spoiled = (decision_is system n job object outcome e).spoiled (won_from system object (so_far system job n).first n spoiled)

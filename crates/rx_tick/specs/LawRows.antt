@@ -1,0 +1,64 @@
+-- The words of the laws, on worked schedules.
+use Rattle.std.specs.Prelude.{◌≡◌, ◌+◌, refl, true, false, [], ◌∷◌, Some, None}
+use Rattle.rx_seq.specs.History.{tag_of}
+use Rattle.rx_tick.specs.Schedule.{Idle, Busy, Decide, history, wins_on, slots, slot_at}
+use Rattle.rx_tick.specs.Events.{wins, wins_below}
+use Rattle.rx_tick.specs.Laws.{who, so_far, finished_before, slots_of, asked_up_to, lost_ticks}
+use Rattle.rx_tick.specs.Rows.{job, work_alone, retried}
+
+-- b has slots 0, 2 and 3, and a preempts it in slot 1
+pub work_owners : who work_alone 0 ∷ who work_alone 1 ∷ who work_alone 2 ∷ who work_alone 3 ∷ [] ≡ Some (job 1 1) ∷ Some (job 0 1) ∷ Some (job 1 1) ∷ Some (job 1 1) ∷ []
+work_owners = refl
+
+pub work_idle : slot_at work_alone 4 ≡ Idle
+work_idle = refl
+
+pub work_unfinished : finished_before work_alone (job 1 1) 3 ≡ false
+work_unfinished = refl
+
+pub work_finished : finished_before work_alone (job 1 1) 4 ≡ true
+work_finished = refl
+
+-- it has had the three ticks that its one item asks for
+pub work_share : slots_of (job 1 1) (slots work_alone 4) ≡ 3
+work_share = refl
+
+pub work_asked : asked_up_to work_alone (job 1 1) 1 ≡ 3
+work_asked = refl
+
+-- b's attempt from slot 1 to slot 4 is lost to that of a, which ends in slot 3
+pub lost_slot : slot_at retried 4 ≡ Decide (job 1 1) 0 None
+lost_slot = refl
+
+pub lost_first : (so_far retried (job 1 1) 4).first ≡ 1
+lost_first = refl
+
+pub lost_begins : slot_at retried 1 ≡ Busy (job 1 1)
+lost_begins = refl
+
+pub lost_to : wins_on 0 (slot_at retried 3) ≡ true
+lost_to = refl
+
+-- two slots of the job from its first to its last
+pub lost_cost : slots_of (job 1 1) (slots retried 5) ≡ slots_of (job 1 1) (slots retried 1) + 2
+lost_cost = refl
+
+-- its six slots are the four ticks that its items ask for and the two of that attempt
+pub retried_share : slots_of (job 1 1) (slots retried 10) ≡ 6
+retried_share = refl
+
+pub retried_asked : asked_up_to retried (job 1 1) 3 ≡ 4
+retried_asked = refl
+
+pub retried_lost : lost_ticks retried (job 1 1) (slots retried 10) ≡ 2
+retried_lost = refl
+
+-- two entries, of which the first was there before slot 4
+pub retried_tag : tag_of 0 (history (slots retried 10)) ≡ 2
+retried_tag = refl
+
+pub retried_wins : wins 0 (slots retried 10) ≡ 2
+retried_wins = refl
+
+pub retried_before : wins_below 0 4 (slots retried 10) ≡ 1
+retried_before = refl

@@ -1,0 +1,78 @@
+-- The words of the laws of the schedule.
+use Rattle.std.specs.Prelude.{ℕ, zero, suc, ◌+◌, ◌≡◌, ◌≢◌, ◌≤◌, ◌<◌, Bool, true, false, if◌then◌else◌, List, [], ◌∷◌, Option, Some, None}
+use Rattle.rx_set.specs.declared.items.Item.{Item}
+use Rattle.rx_set.specs.declared.items.Item.TheVariants.{Work, Op}
+use Rattle.rx_set.specs.declared.jobs.Job.{Job}
+use Rattle.rx_set.specs.System.{System, item_at, attempt_cost, release, key, is_below}
+use Rattle.rx_set.specs.Valid.{IsJobOf}
+use Rattle.rx_tick.specs.Schedule.{Slot, Idle, Busy, Decide, Progress, progress, is_finished, job_in, same, slots, slot_at, wins_on}
+
+-- the job that has slot n
+abbrev pub who : System → ℕ → Option Job
+who system n = job_in (slot_at system n)
+
+-- how far its slots before slot n bring a job
+abbrev pub so_far : System → Job → ℕ → Progress
+so_far system job n = progress system job (slots system n)
+
+abbrev pub finished_before : System → Job → ℕ → Bool
+finished_before system job n = is_finished system (slots system n) job
+
+-- a job of any number that is released at n or before, and not finished by its slots before n
+pub record IsPendingAt (system : System) (n : ℕ) (job : Job) : Type 0 where
+  pub known : IsJobOf system job
+  pub released : release system job ≤ n
+  pub unfinished : finished_before system job n ≡ false
+
+-- a pending job at n, where no pending job has a lower key
+pub record IsLeastAt (system : System) (n : ℕ) (job : Job) : Type 0 where
+  pub pending : IsPendingAt system n job
+  pub least : (other : Job) → IsPendingAt system n other → is_below (key system other) (key system job) ≡ false
+
+-- a slot takes the processor from a job: the slot before was the job's, which is unfinished after it, and this one is another job's
+pub record IsPreemption (system : System) (at : ℕ) (job by : Job) : Type 0 where
+  pub before : ℕ
+  pub follows : at ≡ suc before
+  pub had : who system before ≡ Some job
+  pub unfinished : finished_before system job at ≡ false
+  pub has : who system at ≡ Some by
+  pub other : job ≢ by
+
+-- how many of the slots are the job's
+abbrev pub owned : Job → Option Job → ℕ
+owned job None = 0
+owned job (Some other) = if same other job then 1 else 0
+
+abbrev pub slots_of : Job → List Slot → ℕ
+slots_of job [] = 0
+slots_of job (slot ∷ past) = slots_of job past + owned job (job_in slot)
+
+-- the ticks that an item asks for: those of work, or those of one attempt
+abbrev pub asked_by : System → Option Item → ℕ
+asked_by system None = 0
+asked_by system (Some (Work ticks)) = ticks
+asked_by system (Some (Op object call)) = attempt_cost system object
+
+-- those of the items of a job that stand before a place, with the ticks that this job demands
+abbrev pub asked_up_to : System → Job → ℕ → ℕ
+asked_up_to system job zero = 0
+asked_up_to system job (suc place) = asked_up_to system job place + asked_by system (item_at system job place)
+
+-- the ticks of the attempt of the job that a slot loses
+abbrev pub lost_in : System → Job → Slot → ℕ
+lost_in system job Idle = 0
+lost_in system job (Busy other) = 0
+lost_in system job (Decide other object None) = if same other job then attempt_cost system object else 0
+lost_in system job (Decide other object (Some entry)) = 0
+
+-- the ticks of all attempts that the job lost
+abbrev pub lost_ticks : System → Job → List Slot → ℕ
+lost_ticks system job [] = 0
+lost_ticks system job (slot ∷ past) = lost_ticks system job past + lost_in system job slot
+
+-- an attempt on the object won, and raised its tag, in a slot strictly between these two
+pub record IsSpoiled (system : System) (object first last : ℕ) : Type 0 where
+  pub at : ℕ
+  pub after : first < at
+  pub before : at < last
+  pub wins : wins_on object (slot_at system at) ≡ true

@@ -1,0 +1,91 @@
+//! Laws of the schedule. Each function does nothing: its contract is the law.
+ghost use Rattle.rx_seq.specs.History.{calls_of, part_at, replay, tag_of};
+ghost use Rattle.rx_seq.specs.Table.{effect};
+ghost use Rattle.rx_seq.specs.declared.calls.Call.{Call};
+ghost use Rattle.rx_seq.specs.declared.entries.Entry.{Entry};
+ghost use Rattle.rx_set.specs.System.{System, attempt_cost, is_below, item_at, key, parts_of, release, task_of};
+ghost use Rattle.rx_set.specs.Valid.{IsJobOf, IsValid, IsWork};
+ghost use Rattle.rx_set.specs.declared.items.Item.{Item};
+ghost use Rattle.rx_set.specs.declared.items.Item.TheVariants.{Op};
+ghost use Rattle.rx_set.specs.declared.jobs.Job.{Job};
+ghost use Rattle.rx_tick.specs.Events.{events, wins, wins_below};
+ghost use Rattle.rx_tick.specs.Laws.{IsLeastAt, IsPendingAt, IsPreemption, IsSpoiled, asked_by, asked_up_to, finished_before, lost_ticks, slots_of, so_far, who};
+ghost use Rattle.rx_tick.specs.Schedule.{Busy, Decide, Idle, history, slot_at, slots};
+ghost use Rattle.rx_tick.specs.declared.events.Event.TheVariants.{Preempt};
+ghost use Rattle.std.specs.List.{Contains};
+ghost use Rattle.std.specs.Prelude.{ℕ, Option, List, suc, ◌∷◌, ◌++◌, ◌≡◌, ◌≢◌, ◌≤◌, ◌<◌, ◌+◌, ◌-◌, ◌↔◌, length, drop, slice_get, Some, None, true, false};
+
+/// A longer schedule begins with the shorter one: slots never change once they are made. The list of the first n slots
+/// has n of them, the newest first, and slot n is the same in each list that has it.
+pub fn schedules_extend()
+    ensures count { (system : System) (n : ℕ) → length (slots system n) ≡ n }
+    ensures begins { (system : System) (m n : ℕ) → n ≤ m → drop (m - n) (slots system m) ≡ slots system n }
+    ensures stays { (system : System) (m n : ℕ) → n < m → slice_get (slots system m) (m - 1 - n) ≡ Some (slot_at system n) }
+{}
+
+/// A slot is idle exactly where no job of any number is pending. Else it goes to the pending job of least key, whatever
+/// the numbers of the pending jobs are, and to no other.
+pub fn slots_go_to_the_least()
+    ensures idle { (system : System) (n : ℕ) → IsValid system → (slot_at system n ≡ Idle) ↔ ((job : Job) → ¬ IsPendingAt system n job) }
+    ensures busy { (system : System) (n : ℕ) (job : Job) → IsValid system → (who system n ≡ Some job) ↔ IsLeastAt system n job }
+{}
+
+/// The events of the first n slots tell each preemption in them, and only these. The job that preempts was released in that very slot, and its key is lower.
+pub fn preemptions_are_releases()
+    ensures told { (system : System) (n at : ℕ) (job by : Job) → Contains (events system n) (Preempt at job by) ↔ ((at < n) × IsPreemption system at job by) }
+    ensures released { (system : System) (n at : ℕ) (job by : Job) → IsValid system → Contains (events system n) (Preempt at job by) → release system by ≡ at }
+    ensures below { (system : System) (n at : ℕ) (job by : Job) → IsValid system → Contains (events system n) (Preempt at job by) → is_below (key system by) (key system job) ≡ true }
+{}
+
+/// The slots of a job are cut into its items in turn: what its complete items ask for, then what is in hand, which is less than
+/// the next item asks for, beside the attempts that were lost. So a job that is finished has had exactly the ticks of its items and of its lost attempts,
+/// and one that is not finished fewer. A job without operations loses no attempt.
+pub fn jobs_take_their_items()
+    ensures cut { (system : System) (n : ℕ) (job : Job) →
+        slots_of job (slots system n) ≡ asked_up_to system job (so_far system job n).complete + (so_far system job n).made + lost_ticks system job (slots system n) }
+    ensures in_hand { (system : System) (n : ℕ) (job : Job) → IsValid system → IsJobOf system job → finished_before system job n ≡ false →
+        (so_far system job n).made < asked_by system (item_at system job (so_far system job n).complete) }
+    ensures finished { (system : System) (n : ℕ) (job : Job) → finished_before system job n ≡ true →
+        slots_of job (slots system n) ≡ asked_up_to system job (length (task_of system job).items) + lost_ticks system job (slots system n) }
+    ensures unfinished { (system : System) (n : ℕ) (job : Job) → IsValid system → IsJobOf system job → finished_before system job n ≡ false →
+        slots_of job (slots system n) < asked_up_to system job (length (task_of system job).items) + lost_ticks system job (slots system n) }
+    ensures work { (system : System) (n : ℕ) (job : Job) → ((place : ℕ) (item : Item) → slice_get (task_of system job).items place ≡ Some item → IsWork item) →
+        lost_ticks system job (slots system n) ≡ 0 }
+{}
+
+/// A job that has a slot is one of the system's, was released at that slot or before, and is not finished. A job that is
+/// finished stays so, and has no later slot.
+pub fn nothing_runs_unreleased()
+    ensures known { (system : System) (n : ℕ) (job : Job) → who system n ≡ Some job → IsJobOf system job }
+    ensures released { (system : System) (n : ℕ) (job : Job) → who system n ≡ Some job → release system job ≤ n }
+    ensures stays { (system : System) (m n : ℕ) (job : Job) → m ≤ n → finished_before system job m ≡ true → finished_before system job n ≡ true }
+    ensures finished { (system : System) (m n : ℕ) (job : Job) → m ≤ n → finished_before system job m ≡ true → who system n ≢ Some job }
+{}
+
+/// An attempt on an object that is decided in a slot is the one that its job's item asks for. It was begun in its first
+/// slot, and from that slot to this one its job has exactly the slots that an attempt on the object takes. It is lost
+/// exactly where an attempt on its object won, and raised its tag, in a slot strictly between these two.
+pub fn attempts_take_their_cost()
+    ensures begins { (system : System) (n object : ℕ) (job : Job) (outcome : Option Entry) → slot_at system n ≡ Decide job object outcome →
+        ((so_far system job n).first < n) × (slot_at system (so_far system job n).first ≡ Busy job) × ((so_far system job (so_far system job n).first).made ≡ 0) }
+    ensures item { (system : System) (n object : ℕ) (job : Job) (outcome : Option Entry) → slot_at system n ≡ Decide job object outcome →
+        ((so_far system job (so_far system job n).first).complete ≡ (so_far system job n).complete) × ((call : Call) × (item_at system job (so_far system job n).complete ≡ Some (Op object call))) }
+    ensures made { (system : System) (n object : ℕ) (job : Job) (outcome : Option Entry) → slot_at system n ≡ Decide job object outcome →
+        (so_far system job n).made + 1 ≡ attempt_cost system object }
+    ensures cost { (system : System) (n object : ℕ) (job : Job) (outcome : Option Entry) → slot_at system n ≡ Decide job object outcome →
+        slots_of job (slots system (suc n)) ≡ slots_of job (slots system (so_far system job n).first) + attempt_cost system object }
+    ensures outcome { (system : System) (n object : ℕ) (job : Job) (outcome : Option Entry) → slot_at system n ≡ Decide job object outcome →
+        (outcome ≡ None) ↔ IsSpoiled system object (so_far system job n).first n }
+{}
+
+/// The tag of an object is the number of its loud entries: in all, and before a slot. The history is that of the table:
+/// each entry has the reply that its call makes on the replay of the entries before it, the number of loud entries of
+/// its object up to itself as its tag, and the number of its caller's entries up to itself as its index.
+pub fn tags_count_entries()
+    ensures tags { (system : System) (object n : ℕ) → wins object (slots system n) ≡ tag_of object (history (slots system n)) }
+    ensures before { (system : System) (object m n : ℕ) → m ≤ n → wins_below object m (slots system n) ≡ tag_of object (history (slots system m)) }
+    ensures replies { (system : System) (n : ℕ) (later earlier : List Entry) (entry : Entry) → history (slots system n) ≡ later ++ (entry ∷ earlier) →
+        entry.reply ≡ (effect (part_at (parts_of system) entry.object) (replay (parts_of system) entry.object earlier) entry.call).reply }
+    ensures numbers { (system : System) (n : ℕ) (later earlier : List Entry) (entry : Entry) → history (slots system n) ≡ later ++ (entry ∷ earlier) →
+        (entry.tag ≡ tag_of entry.object (entry ∷ earlier)) × (entry.index ≡ calls_of entry.caller (entry ∷ earlier)) }
+{}
