@@ -1,5 +1,5 @@
 -- The choice of the next job, task by task.
-use Rattle.std.proofs.Common.{ℕ, zero, suc, ◌≡◌, ◌≢◌, ◌≤◌, ◌<◌, ◌+◌, ◌-◌, ◌^◌, ◌&&◌, nat_le, nat_lt, not, Bool, true, false, cond, if◌then◌else◌, List, [], ◌∷◌, ◌++◌, length, filter, fold, Option, Some, None, refl, sym, ◌∙◌, ap, arith, subst, add-one, append-nil}
+use Rattle.std.proofs.Common.{ℕ, zero, suc, ◌≡◌, ◌≤◌, ◌<◌, ◌+◌, ◌^◌, ◌&&◌, nat_le, nat_lt, not, Bool, true, false, cond, if◌then◌else◌, List, [], ◌∷◌, ◌++◌, length, filter, fold, Option, Some, None, refl, sym, ◌∙◌, ap, arith, subst, append-nil}
 use Rattle.std.specs.List.{flat_map}
 use Rattle.std.specs.Option.{ForSome}
 use Rattle.std.proofs.Math.Decide.{dec_le}
@@ -14,8 +14,8 @@ use Rattle.rx_set.specs.Valid.{IsValid, IsJob}
 use Rattle.rx_set.proofs.Keys.{key_order, below_trans, below_swap}
 use Rattle.rx_set.proofs.Releases.{release_order}
 use Rattle.rx_tick.specs.declared.states.State.{State}
-use Rattle.rx_tick.specs.Schedule.{Slot, sooner, least, chosen, is_pending, is_finished, jobs_of, all_jobs, slots}
-use Rattle.rx_tick.specs.States.{job, no_state, state_at, IsState, AreStates, AreOffers, IsOffered, offer, best_of}
+use Rattle.rx_tick.specs.Schedule.{Slot, sooner, chosen, is_pending, is_finished, jobs_of, slots}
+use Rattle.rx_tick.specs.States.{job, state_at, IsState, AreStates, AreOffers, IsOffered, offer, best_of}
 use Rattle.rx_tick.proofs.Told.{finished_is, length-slots, released_bound}
 
 some_same : (a b : Job) → Some a ≡ Some b → a ≡ b

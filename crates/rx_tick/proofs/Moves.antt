@@ -1,9 +1,9 @@
 -- What a slot does to what is kept.
-use Rattle.std.proofs.Common.{ℕ, zero, suc, ◌≡◌, ◌≢◌, ◌≤◌, ◌<◌, ◌+◌, ◌-◌, ◌^◌, ◌==◌, ◌&&◌, nat_le, nat_lt, not, Bool, true, false, if◌then◌else◌, List, [], ◌∷◌, ◌++◌, length, get_or, slice_set, Option, Some, None, refl, sym, ◌∙◌, ap, arith, subst, add-one, append_assoc}
+use Rattle.std.proofs.Common.{ℕ, zero, suc, ◌≡◌, ◌≢◌, ◌≤◌, ◌<◌, ◌+◌, ◌^◌, ◌==◌, ◌&&◌, nat_le, nat_lt, not, Bool, true, false, if◌then◌else◌, List, [], ◌∷◌, ◌++◌, length, get_or, slice_set, Option, Some, None, refl, sym, ◌∙◌, ap, arith, subst, add-one, append_assoc}
 use Rattle.std.specs.List.{slice_get}
 use Rattle.std.specs.Option.{ForSome}
 use Rattle.std.proofs.Math.Decide.{dec_le}
-use Rattle.std.proofs.lemmas.Bool.{lt-leb, le-leb, false≢true}
+use Rattle.std.proofs.lemmas.Bool.{lt-leb, le-leb}
 use Rattle.std.proofs.lemmas.Bool.Decides.{nat_tests}
 use Rattle.std.proofs.lemmas.List.{get_or-set_other, length-set}
 use Rattle.std.proofs.lemmas.Grind.{get_or-set_at}
@@ -11,10 +11,10 @@ use Rattle.std.proofs.lemmas.Option.{slice_get-get_or}
 use Rattle.rx_set.specs.declared.items.Item.{Item}
 use Rattle.rx_set.specs.declared.items.Item.TheVariants.{Work, Op}
 use Rattle.rx_set.specs.declared.jobs.Job.{Job}
-use Rattle.rx_set.specs.System.{System, TaskRow, ObjectRow, DemandRow, task_at, task_of, item_at, demanded, due}
-use Rattle.rx_set.specs.Valid.{IsValid, IsItem, IsJob, IsWorkAt}
+use Rattle.rx_set.specs.System.{System, ObjectRow, DemandRow, task_at, task_of, item_at, demanded, due}
+use Rattle.rx_set.specs.Valid.{IsItem, IsJob, IsWorkAt}
 use Rattle.rx_tick.specs.declared.states.State.{State}
-use Rattle.rx_tick.specs.Schedule.{Slot, Idle, Busy, Decide, Progress, start, completed, lost, ticked, after, sooner, job_in, same, progress, is_finished, ends_work, decides, tick_in, tick_of, slot_of, next_slot, slot_at, chosen, slots, Asked}
+use Rattle.rx_tick.specs.Schedule.{Slot, Idle, Busy, Decide, Progress, completed, lost, ticked, after, sooner, job_in, same, progress, is_finished, ends_work, decides, tick_in, tick_of, slot_of, next_slot, slot_at, chosen, slots, Asked}
 use Rattle.rx_tick.specs.declared.events.Event.{Event}
 use Rattle.rx_tick.specs.declared.events.Event.TheVariants.{Preempt}
 use Rattle.rx_tick.specs.Events.{last_job, preempted, decision, finish, finished_in, events_of, misses, releases}

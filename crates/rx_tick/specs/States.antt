@@ -1,5 +1,5 @@
 -- What the executive keeps, against the schedule.
-use Rattle.std.specs.Prelude.{ℕ, zero, suc, ◌≡◌, ◌==◌, ◌&&◌, ◌+◌, ◌-◌, ◌<◌, ◌≤◌, ◌^◌, Bool, true, false, if◌then◌else◌, nat_lt, Option, Some, None, List, [], length, get_or, map, filter}
+use Rattle.std.specs.Prelude.{ℕ, zero, suc, ◌≡◌, ◌==◌, ◌&&◌, ◌+◌, ◌<◌, ◌≤◌, ◌^◌, Bool, true, if◌then◌else◌, nat_lt, Option, None, List, [], length, get_or, map, filter}
 use Rattle.std.specs.Option.{ForSome}
 use Rattle.rx_set.specs.declared.jobs.Job.{Job}
 use Rattle.rx_set.specs.System.{System, TaskRow, task_at, task_of, item_at, release, due}

@@ -1,4 +1,4 @@
-use Rattle.std.proofs.Common.{Option, subst, sym, arith, ◌≡◌}
+use Rattle.std.proofs.Common.{Option, subst, sym, arith}
 use Rattle.std.specs.Option.{ForSome}
 use Rattle.rx_set.specs.declared.jobs.Job.{Job}
 use Rattle.rx_set.specs.Valid.{IsJob}

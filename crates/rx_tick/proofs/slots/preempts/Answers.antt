@@ -1,4 +1,4 @@
-use Rattle.std.proofs.Common.{◌≡◌, ◌∙◌, ◌&&◌, nat_le, nat_lt, not, Bool, ap, sym, arith}
+use Rattle.std.proofs.Common.{◌∙◌, ◌&&◌, nat_lt, not, Bool, ap, sym, arith}
 use Rattle.std.proofs.lemmas.Bool.Decides.{nat_tests}
 use Rattle.rx_tick.specs.Schedule.{is_finished}
 use Rattle.rx_tick.specs.States.{state_at}
