@@ -47,10 +47,11 @@ none_best system states e (suc tasks) h =
     none_best system states e tasks (omega arith)
     ∙ ap (offer system (best_of system tasks states) tasks) (sym (first_at system states tasks e (omega arith)))
 
-pub first_turn : (system : System) (states : List State) → states ≡ map first_state_of system.tasks → IsTurn system 0 states (record { watch = 0; best = None; last = None })
+pub first_turn : (system : System) (states : List State) → states ≡ map first_state_of system.tasks → IsTurn system 0 states (record { next_release = 0; next_due = 0; best = None; last = None })
 first_turn system states e = record {
   best = none_best system states e (length system.tasks) (omega arith);
-  watch = record { each = λ task known. record { next = omega arith; due = λ some later. omega arith } };
+  dues = record { each = λ task known some later. omega arith };
+  releases = record { each = λ task known. omega arith };
   last = refl;
   last_known = known_none system None refl;
 }

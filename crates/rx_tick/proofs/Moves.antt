@@ -18,7 +18,7 @@ use Rattle.rx_tick.specs.Schedule.{Slot, Idle, Busy, Decide, Progress, completed
 use Rattle.rx_tick.specs.declared.events.Event.{Event}
 use Rattle.rx_tick.specs.declared.events.Event.TheVariants.{Preempt}
 use Rattle.rx_tick.specs.Events.{last_job, preempted, decision, finish, finished_in, events_of, misses, releases}
-use Rattle.rx_tick.specs.States.{job, no_state, state_at, progress_of, tick_made, with_progress, after_tick, IsState, AreStates, AreWatched, IsWatch, IsWorkSystem, IsOffered, offer, best_of}
+use Rattle.rx_tick.specs.States.{job, no_state, state_at, progress_of, tick_made, with_progress, after_tick, IsState, AreStates, IsBeforeDue, AreBeforeDue, AreBeforeRelease, IsWorkSystem, IsOffered, offer, best_of}
 use Rattle.rx_tick.proofs.Told.{length-slots, released_bound}
 use Rattle.rx_tick.proofs.Chosen.{chosen_is, best_offered}
 
@@ -131,54 +131,68 @@ pub made_bound : (system : System) (mine : Job) (past : List Slot) → (progress
 made_bound system mine [] = omega arith
 made_bound system mine (slot ∷ past) = omega (arith, made_after system mine (length past) slot (progress system mine past), made_bound system mine past)
 
--- a write of a state with the same counts leaves the choice
-offer_same : (system : System) (best : Option Job) (task : ℕ) (s t : State) → t.released ≡ s.released → t.finished ≡ s.finished → offer system best task t ≡ offer system best task s
-offer_same system best task s t released finished =
-    ap (λ (n : ℕ). if nat_lt n t.released then sooner system best (job task (n + 1)) else best) finished
-    ∙ ap (λ (n : ℕ). if nat_lt s.finished n then sooner system best (job task (s.finished + 1)) else best) released
+-- a write of a state that offers the same leaves the choice
+offer_same : (system : System) (best : Option Job) (task : ℕ) (s t : State) → nat_lt t.finished t.released ≡ nat_lt s.finished s.released → t.finished ≡ s.finished → offer system best task t ≡ offer system best task s
+offer_same system best task s t tests finished =
+    ap (λ (b : Bool). if b then sooner system best (job task (t.finished + 1)) else best) tests
+    ∙ ap (λ (n : ℕ). if nat_lt s.finished s.released then sooner system best (job task (n + 1)) else best) finished
 
-pub best_set : (system : System) (states : List State) (task : ℕ) (new : State) → task < length states → new.released ≡ (state_at states task).released → new.finished ≡ (state_at states task).finished
+pub best_set : (system : System) (states : List State) (task : ℕ) (new : State) → task < length states
+    → nat_lt new.finished new.released ≡ nat_lt (state_at states task).finished (state_at states task).released → new.finished ≡ (state_at states task).finished
     → (tasks : ℕ) → best_of system tasks (slice_set states task new) ≡ best_of system tasks states
-best_set system states task new known released finished zero = refl
-best_set system states task new known released finished (suc tasks) =
-    ap (λ (best : Option Job). offer system best tasks (state_at (slice_set states task new) tasks)) (best_set system states task new known released finished tasks)
+best_set system states task new known tests finished zero = refl
+best_set system states task new known tests finished (suc tasks) =
+    ap (λ (best : Option Job). offer system best tasks (state_at (slice_set states task new) tasks)) (best_set system states task new known tests finished tasks)
     ∙ elim (dec_le tasks task) [
-      | yes below ↦ elim (dec_le task tasks) [
-        | yes above ↦
-            let here : tasks ≡ task = omega arith in
-            ap (offer system (best_of system tasks states) tasks) (get_or-set_at states task tasks new no_state here known)
-            ∙ offer_same system (best_of system tasks states) tasks (state_at states tasks) new
-            (released ∙ ap (λ (t : ℕ). (state_at states t).released) (sym here)) (finished ∙ ap (λ (t : ℕ). (state_at states t).finished) (sym here))
+        yes below ↦ elim (dec_le task tasks) [
+          yes above ↦
+              let here : tasks ≡ task = omega arith in
+              ap (offer system (best_of system tasks states) tasks) (get_or-set_at states task tasks new no_state here known)
+              ∙ offer_same system (best_of system tasks states) tasks (state_at states tasks) new
+                  (tests ∙ ap (λ (t : ℕ). nat_lt (state_at states t).finished (state_at states t).released) (sym here)) (finished ∙ ap (λ (t : ℕ). (state_at states t).finished) (sym here))
         | no before ↦ ap (offer system (best_of system tasks states) tasks) (get_or-set_other states task tasks new no_state (λ e. absurd (omega arith)))
-      ]
+        ]
       | no after ↦ ap (offer system (best_of system tasks states) tasks) (get_or-set_other states task tasks new no_state (λ e. absurd (omega arith)))
-    ]
+      ]
 
--- and leaves the watch where it is, if no more jobs are unfinished
-pub watch_set : (system : System) (time watch : ℕ) (states : List State) (task : ℕ) (new : State) → task < length states → new.released ≡ (state_at states task).released → new.next ≡ (state_at states task).next
-    → (state_at states task).finished ≤ new.finished → AreWatched system time watch states → AreWatched system time watch (slice_set states task new)
-watch_set system time watch states task new known released next finished watched = record {
+-- it leaves when jobs are due, if no more of them are unfinished
+pub due_set : (system : System) (time watch : ℕ) (states : List State) (task : ℕ) (new : State) → task < length states → new.released ≡ (state_at states task).released
+    → (state_at states task).finished ≤ new.finished → AreBeforeDue system time watch states → AreBeforeDue system time watch (slice_set states task new)
+due_set system time watch states task new known released finished watched = record {
   each = λ other inside. elim (dec_le other task) [
-    | yes below ↦ elim (dec_le task other) [
-      | yes above ↦
-          let here : other ≡ task = omega arith in
-          subst (IsWatch system time watch other) (sym (get_or-set_at states task other new no_state here known)) (same_watch other here inside)
-      | no before ↦ subst (IsWatch system time watch other) (sym (get_or-set_other states task other new no_state (λ e. absurd (omega arith)))) (watched.each other inside)
-    ]
-    | no after ↦ subst (IsWatch system time watch other) (sym (get_or-set_other states task other new no_state (λ e. absurd (omega arith)))) (watched.each other inside)
-  ];
+      yes below ↦ elim (dec_le task other) [
+        yes above ↦
+            let here : other ≡ task = omega arith in
+            subst (IsBeforeDue system time watch other) (sym (get_or-set_at states task other new no_state here known)) (same_due other here inside)
+      | no before ↦ subst (IsBeforeDue system time watch other) (sym (get_or-set_other states task other new no_state (λ e. absurd (omega arith)))) (watched.each other inside)
+      ]
+    | no after ↦ subst (IsBeforeDue system time watch other) (sym (get_or-set_other states task other new no_state (λ e. absurd (omega arith)))) (watched.each other inside)
+    ];
 }
   where
-    same_watch : (other : ℕ) → other ≡ task → other < length system.tasks → IsWatch system time watch other new
-    same_watch other here inside =
+    same_due : (other : ℕ) → other ≡ task → other < length system.tasks → IsBeforeDue system time watch other new
+    same_due other here inside =
         let old = watched.each other inside in
         let released_here : new.released ≡ (state_at states other).released = released ∙ ap (λ (t : ℕ). (state_at states t).released) (sym here) in
-        let next_here : new.next ≡ (state_at states other).next = next ∙ ap (λ (t : ℕ). (state_at states t).next) (sym here) in
-        let finished_here : (state_at states other).finished ≤ new.finished = subst (λ (t : ℕ). (state_at states t).finished ≤ new.finished) (sym here) finished in record {
-          next = omega (arith, old.next);
-          due = λ some later. subst (λ (n : ℕ). watch ≤ due system (job other n)) (sym released_here)
-              (old.due (omega arith) (subst (λ (n : ℕ). time ≤ due system (job other n)) released_here later));
-        }
+        let finished_here : (state_at states other).finished ≤ new.finished = subst (λ (t : ℕ). (state_at states t).finished ≤ new.finished) (sym here) finished in
+        λ some later. subst (λ (n : ℕ). watch ≤ due system (job other n)) (sym released_here)
+            (old (omega arith) (subst (λ (n : ℕ). time ≤ due system (job other n)) released_here later))
+
+-- and when jobs are released, if that stays
+pub release_set : (system : System) (watch : ℕ) (states : List State) (task : ℕ) (new : State) → task < length states → new.next ≡ (state_at states task).next
+    → AreBeforeRelease system watch states → AreBeforeRelease system watch (slice_set states task new)
+release_set system watch states task new known next watched = record {
+  each = λ other inside. elim (dec_le other task) [
+      yes below ↦ elim (dec_le task other) [
+        yes above ↦
+            let here : other ≡ task = omega arith in
+            subst (λ (s : State). watch ≤ s.next) (sym (get_or-set_at states task other new no_state here known))
+                (subst (λ (n : ℕ). watch ≤ n) (ap (λ (t : ℕ). (state_at states t).next) here ∙ sym next) (watched.each other inside))
+      | no before ↦ subst (λ (s : State). watch ≤ s.next) (sym (get_or-set_other states task other new no_state (λ e. absurd (omega arith)))) (watched.each other inside)
+      ]
+    | no after ↦ subst (λ (s : State). watch ≤ s.next) (sym (get_or-set_other states task other new no_state (λ e. absurd (omega arith)))) (watched.each other inside)
+    ];
+}
 
 -- what a tick does to the counts
 released_after : (items : ℕ) (s : State) (p : Progress) → (with_progress items s p).released ≡ s.released
@@ -364,26 +378,33 @@ module _ (system : System) (now : ℕ) (states : List State) (kept : AreStates s
   unfolding after_here
   states_after = subst (λ (past : List Slot). AreStates system past (now + 1) (slice_set states mine.task after_here)) (sym slots_here) states_next
 
+  same_released : (after_tick system now mine (state_at states mine.task)).released ≡ (state_at states mine.task).released
+  same_released = released_after (length (task_of system mine).items) (state_at states mine.task)
+      (tick_made (ends_work (item_at system mine (state_at states mine.task).complete) (state_at states mine.task).made) now (state_at states mine.task))
+
+  same_next : (after_tick system now mine (state_at states mine.task)).next ≡ (state_at states mine.task).next
+  same_next = next_after (length (task_of system mine).items) (state_at states mine.task)
+      (tick_made (ends_work (item_at system mine (state_at states mine.task).complete) (state_at states mine.task).made) now (state_at states mine.task))
+
+  more_finished : (state_at states mine.task).finished ≤ (after_tick system now mine (state_at states mine.task)).finished
+  unfolding after_here
+  more_finished = by_count (progress_here.complete == items_here) refl
+    where
+      by_count : (b : Bool) → (progress_here.complete == items_here) ≡ b → (state_at states mine.task).finished ≤ (after_tick system now mine (state_at states mine.task)).finished
+      by_count true f = omega (arith, counts_here ∙ ap (λ (t : Bool). if t then (state_at states mine.task).finished + 1 else (state_at states mine.task).finished) f)
+      by_count false f = omega (arith, counts_here ∙ ap (λ (t : Bool). if t then (state_at states mine.task).finished + 1 else (state_at states mine.task).finished) f)
+
   pub best_after : (after_tick system now mine (state_at states mine.task)).finished ≡ (state_at states mine.task).finished
       → best_of system (length system.tasks) (slice_set states mine.task (after_tick system now mine (state_at states mine.task))) ≡ best_of system (length system.tasks) states
   best_after e = best_set system states mine.task (after_tick system now mine (state_at states mine.task)) offered_here.task
-      (released_after (length (task_of system mine).items) (state_at states mine.task) (tick_made (ends_work (item_at system mine (state_at states mine.task).complete) (state_at states mine.task).made) now (state_at states mine.task)))
+      (ap (λ (n : ℕ). nat_lt n (after_tick system now mine (state_at states mine.task)).released) e ∙ ap (nat_lt (state_at states mine.task).finished) same_released)
       e (length system.tasks)
 
-  pub watch_after : (watch : ℕ) → AreWatched system (now + 1) watch states → AreWatched system (now + 1) watch (slice_set states mine.task (after_tick system now mine (state_at states mine.task)))
-  unfolding after_here
-  watch_after watch watched = watch_set system (now + 1) watch states mine.task (after_tick system now mine (state_at states mine.task)) offered_here.task
-      (released_after (length (task_of system mine).items) (state_at states mine.task) (tick_made (ends_work (item_at system mine (state_at states mine.task).complete) (state_at states mine.task).made) now (state_at states mine.task)))
-      (next_after (length (task_of system mine).items) (state_at states mine.task) (tick_made (ends_work (item_at system mine (state_at states mine.task).complete) (state_at states mine.task).made) now (state_at states mine.task)))
-      more
-      watched
-    where
-      more : (state_at states mine.task).finished ≤ (after_tick system now mine (state_at states mine.task)).finished
-      more = by_count (progress_here.complete == items_here) refl
-        where
-          by_count : (b : Bool) → (progress_here.complete == items_here) ≡ b → (state_at states mine.task).finished ≤ after_here.finished
-          by_count true f = omega (arith, counts_here ∙ ap (λ (t : Bool). if t then (state_at states mine.task).finished + 1 else (state_at states mine.task).finished) f)
-          by_count false f = omega (arith, counts_here ∙ ap (λ (t : Bool). if t then (state_at states mine.task).finished + 1 else (state_at states mine.task).finished) f)
+  pub due_after : (watch : ℕ) → AreBeforeDue system (now + 1) watch states → AreBeforeDue system (now + 1) watch (slice_set states mine.task (after_tick system now mine (state_at states mine.task)))
+  due_after watch watched = due_set system (now + 1) watch states mine.task (after_tick system now mine (state_at states mine.task)) offered_here.task same_released more_finished watched
+
+  pub release_after : (watch : ℕ) → AreBeforeRelease system watch states → AreBeforeRelease system watch (slice_set states mine.task (after_tick system now mine (state_at states mine.task)))
+  release_after watch watched = release_set system watch states mine.task (after_tick system now mine (state_at states mine.task)) offered_here.task same_next watched
 
   pub job_here : now < 2 ^ 40 → IsJob system mine
   job_here early = record {

@@ -16,7 +16,7 @@ use Rattle.rx_tick.specs.declared.states.State.{State}
 use Rattle.rx_tick.specs.declared.events.Event.TheVariants.{Miss, Release}
 use Rattle.rx_tick.specs.Schedule.{Slot, Progress, is_finished, jobs_of, slots}
 use Rattle.rx_tick.specs.Events.{is_missed, is_released_at, misses, releases}
-use Rattle.rx_tick.specs.States.{job, IsState, IsWatch, AreStates, AreWatched, is_late_at, no_state, state_at, misses_at, releases_at}
+use Rattle.rx_tick.specs.States.{job, IsState, IsBeforeDue, AreBeforeDue, AreBeforeRelease, AreStates, is_late_at, no_state, state_at, misses_at, releases_at}
 use Rattle.rx_tick.proofs.Lists.{none_of, only_of, told_of, told_more}
 
 one_more : (b period : ℕ) → (b + 1) * period ≡ b * period + period
@@ -221,44 +221,43 @@ quiet make test n (suc tasks) h =
     ∙ append-nil (told_of make test n tasks)
     ∙ quiet make test n tasks (λ task below. h task (omega arith))
 
-not_late : (system : System) (past : List Slot) (time task watch : ℕ) (s : State) → IsState system past time task s → IsWatch system time watch task s → time < watch → is_late_at (task_at system task) time s ≡ false
+not_late : (system : System) (past : List Slot) (time task watch : ℕ) (s : State) → IsState system past time task s → IsBeforeDue system time watch task s → time < watch → is_late_at (task_at system task) time s ≡ false
 not_late system past time task watch s kept watched early = elim (dec_le s.released s.finished) [
-  | yes none ↦ grind (arith, nat_tests)
+    yes none ↦ grind (arith, nat_tests)
   | no some ↦
       let due_then : due system (job task s.released) + (task_at system task).period ≡ s.next + (task_at system task).deadline = due_is system past time task s kept (omega arith) in
-      let watched_then : time ≤ due system (job task s.released) → watch ≤ due system (job task s.released) = watched.due (omega arith) in
+      let watched_then : time ≤ due system (job task s.released) → watch ≤ due system (job task s.released) = watched (omega arith) in
       let apart : s.next + (task_at system task).deadline ≢ time + (task_at system task).period = λ e. absurd (omega (arith, watched_then (omega arith))) in
       grind (arith, nat_tests)
-]
+  ]
 
-module _ (system : System) (now watch : ℕ) (states : List State) (kept : AreStates system (slots system now) now states) (watched : AreWatched system now watch states) (early : now < watch) where
-  pub quiet_misses : misses system (slots system now) ≡ []
-  quiet_misses =
+module _ (system : System) (now watch : ℕ) (states : List State) (kept : AreStates system (slots system now) now states) (early : now < watch) where
+  pub quiet_misses : AreBeforeDue system now watch states → misses system (slots system now) ≡ []
+  quiet_misses watched =
       sym (misses_all system now (length system.tasks) refl)
       ∙ quiet (Miss now) (is_missed system (slots system now)) now (length system.tasks) (λ task known.
-      missed_none system (slots system now) now task (state_at states task) (kept.each task known) kept.of.valid known (length-slots system now)
-      (not_late system (slots system now) now task watch (state_at states task) (kept.each task known) (watched.each task known) early))
+          missed_none system (slots system now) now task (state_at states task) (kept.each task known) kept.of.valid known (length-slots system now)
+              (not_late system (slots system now) now task watch (state_at states task) (kept.each task known) (watched.each task known) early))
 
-  pub quiet_releases : releases system now ≡ []
-  quiet_releases =
+  pub quiet_releases : AreBeforeRelease system watch states → releases system now ≡ []
+  quiet_releases watched =
       quiet (Release now) (is_released_at system now) now (length system.tasks) (λ task known.
-      released_none system (slots system now) now task (state_at states task) (kept.each task known) kept.of.valid known
-      (λ e. absurd (omega (arith, (watched.each task known).next))))
+          released_none system (slots system now) now task (state_at states task) (kept.each task known) kept.of.valid known
+              (λ e. absurd (omega (arith, watched.each task known))))
 
-  pub quiet_states : AreStates system (slots system now) (now + 1) states
-  quiet_states = record {
+  pub quiet_states : AreBeforeRelease system watch states → AreStates system (slots system now) (now + 1) states
+  quiet_states watched = record {
     of = kept.of;
     count = kept.count;
-    each = λ task known. state_waits system (slots system now) now task (state_at states task) (kept.each task known) (omega (arith, (watched.each task known).next));
+    each = λ task known. state_waits system (slots system now) now task (state_at states task) (kept.each task known) (omega (arith, watched.each task known));
   }
 
-  pub quiet_watch : AreWatched system (now + 1) watch states
-  quiet_watch = record {
-    each = λ task known. record {
-      next = (watched.each task known).next;
-      due = λ unfinished later. (watched.each task known).due unfinished (omega arith);
-    };
-  }
+-- what is not due before a time is not due before it from later on
+pub due_still : (system : System) (now watch : ℕ) (states : List State) → AreBeforeDue system now watch states → AreBeforeDue system (now + 1) watch states
+due_still system now watch states watched = record { each = λ task known unfinished later. watched.each task known unfinished (omega arith) }
+
+pub due_sooner : (system : System) (time task watch sooner : ℕ) (s : State) → IsBeforeDue system time watch task s → sooner ≤ watch → IsBeforeDue system time sooner task s
+due_sooner system time task watch sooner s watched h = λ some later. omega (arith, watched some later)
 
 -- what code reads of a task is what is shown of it
 pub row_is : (tasks : List Task) (system : System) (k : ℕ) (row : Task) → map row_of tasks ≡ system.tasks → k < length system.tasks → row ≡ get_or tasks k row → task_at system k ≡ row_of row
@@ -267,35 +266,29 @@ row_is tasks system k row shown known is =
     ∙ get_or-map row_of tasks k row no_task (omega (arith, length-map tasks row_of, ap (λ (rows : List TaskRow). length rows) shown))
     ∙ ap row_of (sym is)
 
--- the watch of a task that has an unfinished job which is not due yet
-pub watch_due : (system : System) (past : List Slot) (now task : ℕ) (s : State) (row : TaskRow) → IsState system past (now + 1) task s → IsValid system → task < length system.tasks
-    → task_at system task ≡ row → s.finished < s.released → IsWatch system (now + 1) (s.next + row.deadline - row.period) task s
-watch_due system past now task s row kept valid known is unfinished =
-    let d = due_is system past (now + 1) task s kept (omega arith) in
+-- when the unfinished job of a task is due
+pub due_of_job : (system : System) (past : List Slot) (now task : ℕ) (s : State) (row : TaskRow) → IsState system past now task s → IsValid system → task < length system.tasks
+    → task_at system task ≡ row → s.finished < s.released → IsBeforeDue system (now + 1) (s.next + row.deadline - row.period) task s
+due_of_job system past now task s row kept valid known is unfinished =
+    let d = due_is system past now task s kept (omega arith) in
     let deadlines : (task_at system task).deadline ≡ row.deadline = ap (λ (r : TaskRow). r.deadline) is in
     let periods : (task_at system task).period ≡ row.period = ap (λ (r : TaskRow). r.period) is in
-    record {
-      next = omega (arith, (valid.tasks task known).deadline.1);
-      due = λ some later. omega (arith, d);
-    }
+    λ some later. omega (arith, d)
 
--- and of one that has none
-pub watch_next : (system : System) (past : List Slot) (now task : ℕ) (s : State) (row : TaskRow) → IsState system past (now + 1) task s → IsValid system → task < length system.tasks
-    → task_at system task ≡ row → (s.finished < s.released → s.next + row.deadline ≤ now + row.period) → IsWatch system (now + 1) s.next task s
-watch_next system past now task s row kept valid known is none =
+-- no unfinished job of the task is due after this time
+pub due_of_none : (system : System) (past : List Slot) (now task watch : ℕ) (s : State) (row : TaskRow) → IsState system past now task s → task < length system.tasks
+    → task_at system task ≡ row → (s.finished < s.released → s.next + row.deadline ≤ now + row.period) → IsBeforeDue system (now + 1) watch task s
+due_of_none system past now task watch s row kept known is none =
     let deadlines : (task_at system task).deadline ≡ row.deadline = ap (λ (r : TaskRow). r.deadline) is in
     let periods : (task_at system task).period ≡ row.period = ap (λ (r : TaskRow). r.period) is in
-    record {
-      next = omega arith;
-      due = λ some later. absurd (omega (arith, due_is system past (now + 1) task s kept (omega arith), none some));
-    }
+    λ some later. absurd (omega (arith, due_is system past now task s kept (omega arith), none some))
 
--- an earlier watch watches too
-pub watch_sooner : (system : System) (time task watch sooner : ℕ) (s : State) → IsWatch system time watch task s → sooner ≤ watch → IsWatch system time sooner task s
-watch_sooner system time task watch sooner s watched h = record {
-  next = omega (arith, watched.next);
-  due = λ some later. omega (arith, watched.due some later);
-}
+-- when a job that is released now is due
+pub due_of_released : (system : System) (past : List Slot) (now task watch : ℕ) (s : State) (next : ℕ) (row : TaskRow) → IsState system past now task s → s.next ≡ now → task_at system task ≡ row
+    → watch ≤ now + row.deadline → IsBeforeDue system (now + 1) watch task (record s { released = s.released + 1; next = next })
+due_of_released system past now task watch s next row kept at is h =
+    let deadlines : (task_at system task).deadline ≡ row.deadline = ap (λ (r : TaskRow). r.deadline) is in
+    λ some later. omega (arith, kept.next_release)
 
 -- the states of the first tasks are those of the next time
 pub record AreBetween (system : System) (past : List Slot) (time tasks : ℕ) (states : List State) : Type 0 where

@@ -76,20 +76,28 @@ abbrev pub after_tick : System → ℕ → Job → State → State
 after_tick system now mine s =
     with_progress (length (task_of system mine).items) s (tick_made (ends_work (item_at system mine s.complete) s.made) now s)
 
--- no job is released before this time from now on, and no job that is unfinished is due before it
-pub record IsWatch (system : System) (time watch task : ℕ) (s : State) : Type 0 where
-  pub next : watch ≤ s.next
-  pub due : s.finished < s.released → time ≤ due system (job task s.released) → watch ≤ due system (job task s.released)
+-- from now on the task has no unfinished job that is due before this time
+abbrev pub IsBeforeDue : System → ℕ → ℕ → ℕ → State → Type 0
+IsBeforeDue system time watch task s = s.finished < s.released → time ≤ due system (job task s.released) → watch ≤ due system (job task s.released)
 
-pub record AreWatched (system : System) (time watch : ℕ) (states : List State) : Type 0 where
-  pub each : (task : ℕ) → task < length system.tasks → IsWatch system time watch task (state_at states task)
+pub record AreBeforeDue (system : System) (time watch : ℕ) (states : List State) : Type 0 where
+  pub each : (task : ℕ) → task < length system.tasks → IsBeforeDue system time watch task (state_at states task)
+
+-- no task releases a job before this time
+pub record AreBeforeRelease (system : System) (watch : ℕ) (states : List State) : Type 0 where
+  pub each : (task : ℕ) → task < length system.tasks → watch ≤ (state_at states task).next
 
 -- what is kept of all tasks together
 pub record IsTurn (system : System) (time : ℕ) (states : List State) (turn : Turn) : Type 0 where
   pub best : turn.best ≡ best_of system (length system.tasks) states
-  pub watch : AreWatched system time turn.watch states
+  pub dues : AreBeforeDue system time turn.next_due states
+  pub releases : AreBeforeRelease system turn.next_release states
   pub last : turn.last ≡ last_job (slots system time)
   pub last_known : ForSome turn.last (IsJob system)
+
+-- the soonest job after a task's state has changed, which offers a job now if it offered none before
+abbrev pub with_offer : System → Option Job → ℕ → State → State → Option Job
+with_offer system best task old new = if nat_lt old.finished old.released then best else offer system best task new
 
 -- the latest released job is unfinished, and due now
 abbrev pub is_late_at : TaskRow → ℕ → State → Bool

@@ -32,7 +32,7 @@ fn first_state(task: &Task) -> State
 /// The states of all tasks before the first slot.
 fn first_states(alloc: Global, set: &TaskSet) -> Result<Vec<State>, NoMemory>
     ensures states { IfOk result (λ states. AreStates set.now [] 0 states.items) }
-    ensures turn { IfOk result (λ states. IsTurn set.now 0 states.items (record { watch = 0; best = None; last = None })) }
+    ensures turn { IfOk result (λ states. IsTurn set.now 0 states.items (record { next_release = 0; next_due = 0; best = None; last = None })) }
 {
     let tasks = set.tasks();
     let mut states = match Vec::with_capacity(alloc, tasks.len()) {
@@ -82,7 +82,8 @@ impl<'s> Executive<'s> {
             time: 0,
             states,
             turn: Turn {
-                watch: 0,
+                next_release: 0,
+                next_due: 0,
                 best: None,
                 last: None,
             },

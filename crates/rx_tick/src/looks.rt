@@ -1,11 +1,11 @@
 // What comes at a time before its slot: misses and releases, and then which pending job is the soonest.
-ghost use Rattle.std.specs.Prelude.{ℕ, ◌≡◌, ◌≤◌, ◌<◌, ◌+◌, ◌-◌, ◌^◌, ◌++◌, ◌∷◌, [], Bool, if◌then◌else◌, List, length};
+ghost use Rattle.std.specs.Prelude.{ℕ, ◌≡◌, ◌≤◌, ◌<◌, ◌+◌, ◌-◌, ◌^◌, ◌++◌, ◌∷◌, [],  List, length};
 ghost use Rattle.std.specs.Option.{ForSome};
 ghost use Rattle.arrayvec.specs.ArrayVec.{array_vec_len};
 ghost use Rattle.rx_set.specs.Valid.{IsJob};
 ghost use Rattle.rx_tick.specs.Schedule.{slots, sooner};
 ghost use Rattle.rx_tick.specs.Events.{misses, releases};
-ghost use Rattle.rx_tick.specs.States.{AreStates, IsState, IsWatch, IsTurn, AreWatched, AreOffers, IsWorkSystem, offer, best_of, misses_at, releases_at, is_late_at};
+ghost use Rattle.rx_tick.specs.States.{AreStates, IsState, IsBeforeDue, AreBeforeDue, AreBeforeRelease, AreOffers, IsWorkSystem, offer, with_offer, best_of, misses_at, releases_at, is_late_at};
 ghost use Rattle.rx_set.specs.System.{task_at, is_below as key_below};
 
 use crate::events::Event;
@@ -59,80 +59,56 @@ pub fn tell_misses(set: &TaskSet, states: &[State], now: u64, events: &mut Array
     }
 }
 
-/// Tells the release of a task, if it has one at this time, and counts it.
-fn count_release(
-    set: &TaskSet,
-    state: State,
-    task: usize,
-    now: u64,
-    events: &mut ArrayVec<Event, 131>,
-) -> State
+/// When the unfinished job that a task released latest is due, if that is after this time.
+fn due_after(set: &TaskSet, state: State, task: usize, now: u64) -> u64
     requires of { IsWorkSystem set.now }
     requires known { task < length set.now.tasks }
-    requires now { now < 2 ^ 40 }
+    requires now { now ≤ 2 ^ 40 }
     requires state { IsState set.now (slots set.now now) now task state }
-    requires room { array_vec_len events.old < 131 }
-    ensures state { IsState set.now (slots set.now now) (now + 1) task result }
-    ensures told { events.new.items ≡ events.old.items ++ releases_at set.now now task }
-    ensures few { array_vec_len events.new ≤ array_vec_len events.old + 1 }
-{
-    if state.next != now {
-        return state;
-    }
-    let number = state.released + 1;
-    let job = Job {
-        task: task as u32,
-        number,
-    };
-    events.push(Event::Release { at: now, job });
-    State {
-        released: number,
-        next: state.next + set.tasks()[task].period,
-        ..state
-    }
-}
-
-/// Tells the releases at a time, and counts them.
-fn count_releases(set: &TaskSet, states: &mut [State], now: u64, events: &mut ArrayVec<Event, 131>)
-    requires now { now < 2 ^ 40 }
-    requires states { AreStates set.now (slots set.now now) now states.old }
-    requires room { array_vec_len events.old ≤ 96 }
-    ensures states { AreStates set.now (slots set.now now) (now + 1) states.new }
-    ensures told { events.new.items ≡ events.old.items ++ releases set.now now }
-    ensures few { array_vec_len events.new ≤ array_vec_len events.old + 32 }
-{
-    for task in 0..states.len() {
-        let state = count_release(set, states[task], task, now, events);
-        states[task] = state;
-    }
-}
-
-/// After a time, when a task's next job is released, or its unfinished one is due.
-fn moment(set: &TaskSet, state: State, task: usize, now: u64) -> u64
-    requires of { IsWorkSystem set.now }
-    requires known { task < length set.now.tasks }
-    requires now { now < 2 ^ 40 }
-    requires state { IsState set.now (slots set.now now) (now + 1) task state }
-    ensures { IsWatch set.now (now + 1) result task state }
+    ensures { IsBeforeDue set.now (now + 1) result task state }
 {
     let row = &set.tasks()[task];
     if state.finished < state.released && now + row.period < state.next + row.deadline {
         return state.next + row.deadline - row.period;
     }
-    state.next
+    u64::MAX
 }
 
-/// The first time after this one at which a job is released, or an unfinished one is due.
-fn next_watch(set: &TaskSet, states: &[State], now: u64) -> u64
+/// The first time after this one at which an unfinished job is due.
+fn next_due(set: &TaskSet, states: &[State], now: u64) -> u64
     requires now { now < 2 ^ 40 }
-    requires states { AreStates set.now (slots set.now now) (now + 1) states.now }
-    ensures { AreWatched set.now (now + 1) result states.now }
+    requires states { AreStates set.now (slots set.now now) now states.now }
+    ensures { AreBeforeDue set.now (now + 1) result states.now }
 {
     let mut watch = u64::MAX;
     for task in 0..states.len() {
-        watch = watch.min(moment(set, states[task], task, now));
+        watch = watch.min(due_after(set, states[task], task, now));
     }
     watch
+}
+
+/// Tells the misses of a time. Before the next time at which an unfinished job is due there is nothing to do.
+pub fn look_at_dues(
+    set: &TaskSet,
+    states: &[State],
+    turn: &mut Turn,
+    now: u64,
+    events: &mut ArrayVec<Event, 131>,
+)
+    requires now { now < 2 ^ 40 }
+    requires states { AreStates set.now (slots set.now now) now states.now }
+    requires dues { AreBeforeDue set.now now turn.old.next_due states.now }
+    requires room { array_vec_len events.old ≤ 32 }
+    ensures dues { AreBeforeDue set.now (now + 1) turn.new.next_due states.now }
+    ensures others { turn.new ≡ record turn.old { next_due = turn.new.next_due } }
+    ensures told { events.new.items ≡ events.old.items ++ misses set.now (slots set.now now) }
+    ensures few { array_vec_len events.new ≤ array_vec_len events.old + 32 }
+{
+    if now < turn.next_due {
+        return;
+    }
+    tell_misses(set, states, now, events);
+    turn.next_due = next_due(set, states, now);
 }
 
 /// Whether the first key is lower.
@@ -158,6 +134,112 @@ fn sooner_of(set: &TaskSet, best: Option<Job>, job: Job) -> Option<Job>
             best
         }
     }
+}
+
+/// Tells the release of a task, if it has one at this time, and counts it. A job that its task had not to offer before
+/// may be the soonest.
+fn count_release(
+    set: &TaskSet,
+    state: State,
+    task: usize,
+    turn: &mut Turn,
+    now: u64,
+    events: &mut ArrayVec<Event, 131>,
+) -> State
+    requires of { IsWorkSystem set.now }
+    requires known { task < length set.now.tasks }
+    requires now { now < 2 ^ 40 }
+    requires state { IsState set.now (slots set.now now) now task state }
+    requires due { IsBeforeDue set.now (now + 1) turn.old.next_due task state }
+    requires best { ForSome turn.old.best (IsJob set.now) }
+    requires room { array_vec_len events.old < 131 }
+    ensures state { IsState set.now (slots set.now now) (now + 1) task result }
+    ensures same { result.finished ≡ state.finished }
+    ensures released { state.released ≤ result.released }
+    ensures due { IsBeforeDue set.now (now + 1) turn.new.next_due task result }
+    ensures sooner { turn.new.next_due ≤ turn.old.next_due }
+    ensures best { turn.new.best ≡ with_offer set.now turn.old.best task state result }
+    ensures last { turn.new.last ≡ turn.old.last }
+    ensures told { events.new.items ≡ events.old.items ++ releases_at set.now now task }
+    ensures few { array_vec_len events.new ≤ array_vec_len events.old + 1 }
+{
+    if state.next != now {
+        return state;
+    }
+    let row = &set.tasks()[task];
+    let number = state.released + 1;
+    let job = Job {
+        task: task as u32,
+        number,
+    };
+    events.push(Event::Release { at: now, job });
+    turn.next_due = turn.next_due.min(now + row.deadline);
+    if state.finished == state.released {
+        turn.best = sooner_of(set, turn.best, job);
+    }
+    State {
+        released: number,
+        next: state.next + row.period,
+        ..state
+    }
+}
+
+/// Tells the releases of a time, and counts them.
+fn count_releases(
+    set: &TaskSet,
+    states: &mut [State],
+    turn: &mut Turn,
+    now: u64,
+    events: &mut ArrayVec<Event, 131>,
+) -> u64
+    requires now { now < 2 ^ 40 }
+    requires states { AreStates set.now (slots set.now now) now states.old }
+    requires best { turn.old.best ≡ best_of set.now (length set.now.tasks) states.old }
+    requires dues { AreBeforeDue set.now (now + 1) turn.old.next_due states.old }
+    requires room { array_vec_len events.old ≤ 64 }
+    ensures states { AreStates set.now (slots set.now now) (now + 1) states.new }
+    ensures best { turn.new.best ≡ best_of set.now (length set.now.tasks) states.new }
+    ensures dues { AreBeforeDue set.now (now + 1) turn.new.next_due states.new }
+    ensures releases { AreBeforeRelease set.now result states.new }
+    ensures last { turn.new.last ≡ turn.old.last }
+    ensures told { events.new.items ≡ events.old.items ++ releases set.now now }
+    ensures few { array_vec_len events.new ≤ array_vec_len events.old + 32 }
+{
+    let mut next = u64::MAX;
+    for task in 0..states.len() {
+        let state = count_release(set, states[task], task, turn, now, events);
+        states[task] = state;
+        next = next.min(state.next);
+    }
+    next
+}
+
+/// Tells the releases of a time, and counts them. Before the next release there is nothing to do.
+pub fn look_at_releases(
+    set: &TaskSet,
+    states: &mut [State],
+    turn: &mut Turn,
+    now: u64,
+    events: &mut ArrayVec<Event, 131>,
+)
+    requires now { now < 2 ^ 40 }
+    requires states { AreStates set.now (slots set.now now) now states.old }
+    requires best { turn.old.best ≡ best_of set.now (length set.now.tasks) states.old }
+    requires dues { AreBeforeDue set.now (now + 1) turn.old.next_due states.old }
+    requires releases { AreBeforeRelease set.now turn.old.next_release states.old }
+    requires room { array_vec_len events.old ≤ 64 }
+    ensures states { AreStates set.now (slots set.now now) (now + 1) states.new }
+    ensures best { turn.new.best ≡ best_of set.now (length set.now.tasks) states.new }
+    ensures dues { AreBeforeDue set.now (now + 1) turn.new.next_due states.new }
+    ensures releases { AreBeforeRelease set.now turn.new.next_release states.new }
+    ensures last { turn.new.last ≡ turn.old.last }
+    ensures told { events.new.items ≡ events.old.items ++ releases set.now now }
+    ensures few { array_vec_len events.new ≤ array_vec_len events.old + 32 }
+{
+    if now < turn.next_release {
+        return;
+    }
+    turn.next_release = count_releases(set, states, turn, now, events);
 }
 
 /// The sooner of a job and the one that a task offers, which is its first unfinished job if that is released.
@@ -188,33 +270,4 @@ pub fn pick(set: &TaskSet, states: &[State]) -> Option<Job>
         best = offer_of(set, best, states[task], task);
     }
     best
-}
-
-/// Tells the misses and the releases of a time, and looks which pending job is the soonest. Before the watch nothing
-/// can come, and there is nothing to do.
-pub fn look(
-    set: &TaskSet,
-    states: &mut [State],
-    turn: &mut Turn,
-    now: u64,
-    events: &mut ArrayVec<Event, 131>,
-)
-    requires now { now < 2 ^ 40 }
-    requires states { AreStates set.now (slots set.now now) now states.old }
-    requires turn { IsTurn set.now now states.old turn.old }
-    requires room { array_vec_len events.old ≤ 32 }
-    ensures states { AreStates set.now (slots set.now now) (now + 1) states.new }
-    ensures best { turn.new.best ≡ best_of set.now (length set.now.tasks) states.new }
-    ensures watch { AreWatched set.now (now + 1) turn.new.watch states.new }
-    ensures last { turn.new.last ≡ turn.old.last }
-    ensures told { events.new.items ≡ events.old.items ++ misses set.now (slots set.now now) ++ releases set.now now }
-    ensures few { array_vec_len events.new ≤ array_vec_len events.old + 64 }
-{
-    if now < turn.watch {
-        return;
-    }
-    tell_misses(set, states, now, events);
-    count_releases(set, states, now, events);
-    turn.watch = next_watch(set, states, now);
-    turn.best = pick(set, states);
 }

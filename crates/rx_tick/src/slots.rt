@@ -6,10 +6,10 @@ ghost use Rattle.rx_set.specs.Valid.{IsJob};
 ghost use Rattle.rx_set.specs.System.{System, task_of, item_at};
 ghost use Rattle.rx_tick.specs.Schedule.{Slot, slots, slot_at, job_in, same, is_finished, ends_work};
 ghost use Rattle.rx_tick.specs.Events.{preempted, finished_in, finish, events_of, decision};
-ghost use Rattle.rx_tick.specs.States.{AreStates, IsState, IsTurn, AreWatched, IsWorkSystem, best_of, after_tick};
+ghost use Rattle.rx_tick.specs.States.{AreStates, IsState, IsTurn, AreBeforeDue, AreBeforeRelease, IsWorkSystem, best_of, after_tick};
 
 use crate::events::Event;
-use crate::looks::{look, pick};
+use crate::looks::{look_at_dues, look_at_releases, pick};
 use crate::states::{State, with_tick};
 use crate::turns::Turn;
 use arrayvec::ArrayVec;
@@ -105,8 +105,8 @@ fn give_slot(
     requires room { array_vec_len events.old < 131 }
     ensures states { AreStates set.now (slots set.now (now + 1)) (now + 1) states.new }
     ensures best { turn.new.best ≡ best_of set.now (length set.now.tasks) states.new }
-    ensures watch { turn.new.watch ≡ turn.old.watch }
-    ensures watched { AreWatched set.now (now + 1) turn.old.watch states.old → AreWatched set.now (now + 1) turn.old.watch states.new }
+    ensures dues { AreBeforeDue set.now (now + 1) turn.old.next_due states.old → AreBeforeDue set.now (now + 1) turn.new.next_due states.new }
+    ensures releases { AreBeforeRelease set.now turn.old.next_release states.old → AreBeforeRelease set.now turn.new.next_release states.new }
     ensures last { turn.new.last ≡ turn.old.last }
     ensures told { events.new.items ≡ events.old.items ++ finished_in set.now (slots set.now now) (slot_at set.now now) (Some job) }
     ensures few { array_vec_len events.new ≤ array_vec_len events.old + 1 }
@@ -133,7 +133,8 @@ fn take_slot(
     requires now { now < 2 ^ 40 }
     requires states { AreStates set.now (slots set.now now) (now + 1) states.old }
     requires best { turn.old.best ≡ best_of set.now (length set.now.tasks) states.old }
-    requires watch { AreWatched set.now (now + 1) turn.old.watch states.old }
+    requires dues { AreBeforeDue set.now (now + 1) turn.old.next_due states.old }
+    requires releases { AreBeforeRelease set.now turn.old.next_release states.old }
     requires room { array_vec_len events.old < 131 }
     ensures states { AreStates set.now (slots set.now (now + 1)) (now + 1) states.new }
     ensures turn { IsTurn set.now (now + 1) states.new turn.new }
@@ -163,7 +164,8 @@ pub fn make_slot(
     ensures slot { turn.new.last ≡ job_in (slot_at set.now now) }
     ensures told { events.new.items ≡ events_of set.now (slots set.now now) (slot_at set.now now) }
 {
-    look(set, states, turn, now, events);
+    look_at_dues(set, states, turn, now, events);
+    look_at_releases(set, states, turn, now, events);
     tell_preemption(set, states, turn, now, events);
     take_slot(set, states, turn, now, events);
 }

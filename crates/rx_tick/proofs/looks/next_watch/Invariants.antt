@@ -1,6 +1,0 @@
-use Rattle.std.proofs.Common.{◌<◌, ◌+◌, ℕ}
-use Rattle.rx_tick.specs.States.{IsWatch, state_at}
-use Rattle.rx_tick.proofs.looks.next_watch.Given as goal
-
-abbrev pub invariant-loop-task : goal.invariant-loop-task
-invariant-loop-task l = (task : ℕ) → task < l.task → IsWatch l.set (l.now + 1) l.watch task (state_at l.states task)
