@@ -2,6 +2,7 @@
 #![tactic(auto)]
 
 mod events;
+mod executive;
 pub mod laws;
 mod looks;
 mod slots;
@@ -11,5 +12,6 @@ mod totals;
 mod turns;
 
 pub use events::Event;
+pub use executive::Executive;
 pub use ticks::Tick;
 pub use totals::Totals;
