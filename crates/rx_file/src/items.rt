@@ -56,13 +56,9 @@ fn read_item(task: u32, item: u32, value: &Value) -> Result<Item, FileFault>
     ensures value { result ≡ item_of task item (view value.now) }
     ensures work { IfOk result IsWorkItem }
 {
-    match value.as_str() {
-        Some(text) => match item_of_text(text.as_bytes()) {
-            Some(found) => Ok(found),
-            None => Err(FileFault::Item { task, item }),
-        },
-        None => Err(FileFault::Item { task, item }),
-    }
+    let fault = FileFault::Item { task, item };
+    let text = value.as_str().ok_or(fault)?;
+    item_of_text(text.as_bytes()).ok_or(fault)
 }
 
 /// The items of a task.
@@ -74,13 +70,10 @@ pub(crate) fn read_items(alloc: Global, task: u32, values: &[Value]) -> Result<V
 {
     let mut items = Vec::new(alloc);
     for value in values {
-        match read_item(task, items.len() as u32 + 1, value) {
-            Ok(item) => match items.push(item) {
-                Ok(()) => {}
-                Err(_) => return Err(FileFault::NoMemory),
-            },
-            Err(fault) => return Err(fault),
-        }
+        let item = read_item(task, items.len() as u32 + 1, value)?;
+        let Ok(()) = items.push(item) else {
+            return Err(FileFault::NoMemory);
+        };
     }
     Ok(items)
 }

@@ -11,6 +11,12 @@ pub(crate) struct Place {
     pub(crate) row: u32,
 }
 
+/// The place of the keys at the top.
+pub(crate) const TOP: Place = Place {
+    section: Section::Top,
+    row: 0,
+};
+
 impl Place {
     /// What is left out, must not stand or is of another type.
     pub(crate) fn field(self, label: Label) -> FileFault

@@ -118,13 +118,10 @@ pub(crate) fn read_rows(alloc: Global, values: &[Value]) -> Result<Vec<Task>, Fi
 {
     let mut tasks = Vec::new(alloc);
     for value in values {
-        match read_row(alloc, tasks.as_slice(), value) {
-            Ok(task) => match tasks.push(task) {
-                Ok(()) => {}
-                Err(_) => return Err(FileFault::NoMemory),
-            },
-            Err(fault) => return Err(fault),
-        }
+        let task = read_row(alloc, tasks.as_slice(), value)?;
+        let Ok(()) = tasks.push(task) else {
+            return Err(FileFault::NoMemory);
+        };
     }
     Ok(tasks)
 }

@@ -6,7 +6,7 @@ ghost use Rattle.rx_file.specs.Gives.{Shows, Gives, SetGives};
 
 use crate::faults::{FileFault, Label, Section};
 use crate::fields::{array_at, only_keys};
-use crate::places::Place;
+use crate::places::TOP;
 use crate::rows::read_rows;
 use rx_set::{Policy, TaskSet};
 use std::alloc::Global;
@@ -18,13 +18,9 @@ fn task_rows<'a>(file: &'a Table) -> Result<&'a [Value], FileFault>
     ensures value { Shows (λ rows. items_view rows.now) (task_rows (table_view file.now)) result }
     ensures length { IfOk result (λ rows. (1 ≤ length rows.now) × (length rows.now ≤ 32)) }
 {
-    let top = Place {
-        section: Section::Top,
-        row: 0,
-    };
-    let rows = array_at(top, Label::Task, file)?;
+    let rows = array_at(TOP, Label::Task, file)?;
     if rows.is_empty() {
-        return Err(top.range(Label::Task));
+        return Err(TOP.range(Label::Task));
     }
     if rows.len() > 32 {
         return Err(FileFault::TooMany {
@@ -40,12 +36,8 @@ fn task_rows<'a>(file: &'a Table) -> Result<&'a [Value], FileFault>
 fn read_file(alloc: Global, file: &Table) -> Result<TaskSet, FileFault>
     ensures { Gives (λ set. set) (set_of_file (table_view file.now)) result }
 {
-    let top = Place {
-        section: Section::Top,
-        row: 0,
-    };
     let rows = task_rows(file)?;
-    only_keys(top, &[Label::Task], file)?;
+    only_keys(TOP, &[Label::Task], file)?;
     let tasks = read_rows(alloc, rows)?;
     Ok(TaskSet::build(Policy::Rm, tasks))
 }

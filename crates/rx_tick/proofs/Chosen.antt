@@ -1,5 +1,5 @@
 -- The choice of the next job, task by task.
-use Rattle.std.proofs.Common.{ℕ, zero, suc, ◌≡◌, ◌≢◌, ◌≤◌, ◌<◌, ◌+◌, ◌-◌, ◌^◌, ◌&&◌, nat_le, nat_lt, not, Bool, true, false, cond, if◌then◌else◌, List, [], ◌∷◌, ◌++◌, length, filter, fold, Option, Some, None, refl, sym, ◌∙◌, ap, arith, subst, add-one, append-nil}
+use Rattle.std.proofs.Common.{ℕ, zero, suc, ◌≡◌, ◌≤◌, ◌<◌, ◌+◌, ◌^◌, ◌&&◌, nat_le, nat_lt, not, Bool, true, false, cond, if◌then◌else◌, List, [], ◌∷◌, ◌++◌, length, filter, fold, Option, Some, None, refl, sym, ◌∙◌, ap, arith, subst, append-nil}
 use Rattle.std.specs.List.{flat_map}
 use Rattle.std.specs.Option.{ForSome}
 use Rattle.std.proofs.Math.Decide.{dec_le}
@@ -14,8 +14,8 @@ use Rattle.rx_set.specs.Valid.{IsValid, IsJob}
 use Rattle.rx_set.proofs.Keys.{key_order, below_trans, below_swap}
 use Rattle.rx_set.proofs.Releases.{release_order}
 use Rattle.rx_tick.specs.declared.states.State.{State}
-use Rattle.rx_tick.specs.Schedule.{Slot, sooner, least, chosen, is_pending, is_finished, jobs_of, all_jobs, slots}
-use Rattle.rx_tick.specs.States.{job, no_state, state_at, IsState, AreStates, AreOffers, IsOffered, offer, best_of}
+use Rattle.rx_tick.specs.Schedule.{Slot, sooner, chosen, is_pending, is_finished, jobs_of, slots}
+use Rattle.rx_tick.specs.States.{job, state_at, IsState, AreStates, AreOffers, IsOffered, offer, best_of}
 use Rattle.rx_tick.proofs.Told.{finished_is, length-slots, released_bound}
 
 some_same : (a b : Job) → Some a ≡ Some b → a ≡ b
@@ -169,16 +169,16 @@ best_offered system states (suc tasks) h =
     by_test false e before = before
 
 -- so it is one that can be asked for
-pub best_known : (system : System) (now : ℕ) (states : List State) (tasks : ℕ) → AreOffers system now states → now < 2 ^ 40 → tasks ≤ length states → ForSome (best_of system tasks states) (IsJob system)
-best_known system now states tasks kept early h = λ x e.
+pub best_known : (system : System) (states : List State) (tasks : ℕ) → AreOffers system states → tasks ≤ length states → ForSome (best_of system tasks states) (IsJob system)
+best_known system states tasks kept h = λ x e.
     let o = best_offered system states tasks h x e in record {
       task = omega (arith, o.task, kept.count);
       number = (omega (arith, o.number), omega (arith, o.number, o.released, kept.few x.task (omega (arith, o.task, kept.count))));
     }
 
-pub offers_from : (system : System) (past : List Slot) (now : ℕ) (states : List State) → AreStates system past (now + 1) states → AreOffers system now states
-offers_from system past now states kept = record {
+pub offers_from : (system : System) (past : List Slot) (now : ℕ) (states : List State) → AreStates system past (now + 1) states → now < 2 ^ 40 → AreOffers system states
+offers_from system past now states kept early = record {
   of = kept.of;
   count = kept.count;
-  few = λ task known. released_bound system past (now + 1) task (state_at states task) (kept.each task known) kept.of.valid known;
+  few = λ task known. omega (arith, released_bound system past (now + 1) task (state_at states task) (kept.each task known) kept.of.valid known);
 }

@@ -1,14 +1,13 @@
 -- What is kept before the first slot.
-use Rattle.std.proofs.Common.{ℕ, zero, suc, ◌≡◌, ◌≤◌, ◌<◌, ◌+◌, ◌∙◌, List, [], ◌∷◌, ◌++◌, length, get_or, take, map, None, Some, Option, refl, sym, ap, subst, arith, Bool, false, true, nat_lt, if◌then◌else◌}
-use Rattle.std.specs.Option.{ForSome}
+use Rattle.std.proofs.Common.{ℕ, zero, suc, ◌≡◌, ◌≤◌, ◌<◌, ◌+◌, ◌∙◌, List, [], ◌∷◌, ◌++◌, length, get_or, take, map, None, refl, sym, ap, subst, arith}
 use Rattle.std.proofs.lemmas.Grind.{take_at_read}
 use Rattle.std.proofs.lemmas.List.{map-append, get_or-map, length-map, take_all}
 use Rattle.rx_set.specs.declared.tasks.Task.{Task}
-use Rattle.rx_set.specs.System.{System, TaskRow, no_task, task_at, release}
-use Rattle.rx_set.specs.Valid.{IsValid, IsJob}
+use Rattle.rx_set.specs.System.{System, no_task, task_at}
+use Rattle.rx_set.specs.Valid.{IsValid}
 use Rattle.rx_set.specs.View.{row_of}
 use Rattle.rx_tick.specs.declared.states.State.{State}
-use Rattle.rx_tick.specs.States.{job, no_state, state_at, first_state_of, IsState, AreStates, IsTurn, IsWatch, IsWorkSystem, best_of, offer}
+use Rattle.rx_tick.specs.States.{no_state, state_at, first_state_of, IsState, AreStates, IsTurn, IsWorkSystem, best_of, offer}
 use Rattle.rx_tick.proofs.Moves.{known_none}
 
 abbrev pub firsts : List Task → List State

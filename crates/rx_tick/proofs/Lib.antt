@@ -2,6 +2,7 @@ pub mod Lists
 pub mod Told
 pub mod Chosen
 pub mod Moves
+pub mod Firsts
 pub mod Prefixes
 pub mod Choices
 pub mod Steps
@@ -9,4 +10,3 @@ pub mod Preemptions
 pub mod Shares
 pub mod Attempts
 pub mod Entries
-pub mod Firsts

@@ -1,9 +1,9 @@
 -- What a slot does to what is kept.
-use Rattle.std.proofs.Common.{ℕ, zero, suc, ◌≡◌, ◌≢◌, ◌≤◌, ◌<◌, ◌+◌, ◌-◌, ◌^◌, ◌==◌, ◌&&◌, nat_le, nat_lt, not, Bool, true, false, if◌then◌else◌, List, [], ◌∷◌, ◌++◌, length, get_or, slice_set, Option, Some, None, refl, sym, ◌∙◌, ap, arith, subst, add-one, append_assoc}
+use Rattle.std.proofs.Common.{ℕ, zero, suc, ◌≡◌, ◌≢◌, ◌≤◌, ◌<◌, ◌+◌, ◌^◌, ◌==◌, ◌&&◌, nat_le, nat_lt, not, Bool, true, false, if◌then◌else◌, List, [], ◌∷◌, ◌++◌, length, get_or, slice_set, Option, Some, None, refl, sym, ◌∙◌, ap, arith, subst, add-one, append_assoc}
 use Rattle.std.specs.List.{slice_get}
 use Rattle.std.specs.Option.{ForSome}
 use Rattle.std.proofs.Math.Decide.{dec_le}
-use Rattle.std.proofs.lemmas.Bool.{lt-leb, le-leb, false≢true}
+use Rattle.std.proofs.lemmas.Bool.{lt-leb, le-leb}
 use Rattle.std.proofs.lemmas.Bool.Decides.{nat_tests}
 use Rattle.std.proofs.lemmas.List.{get_or-set_other, length-set}
 use Rattle.std.proofs.lemmas.Grind.{get_or-set_at}
@@ -11,10 +11,10 @@ use Rattle.std.proofs.lemmas.Option.{slice_get-get_or}
 use Rattle.rx_set.specs.declared.items.Item.{Item}
 use Rattle.rx_set.specs.declared.items.Item.TheVariants.{Work, Op}
 use Rattle.rx_set.specs.declared.jobs.Job.{Job}
-use Rattle.rx_set.specs.System.{System, TaskRow, ObjectRow, DemandRow, task_at, task_of, item_at, demanded, due}
-use Rattle.rx_set.specs.Valid.{IsValid, IsItem, IsJob, IsWorkAt}
+use Rattle.rx_set.specs.System.{System, ObjectRow, DemandRow, task_at, task_of, item_at, demanded, due}
+use Rattle.rx_set.specs.Valid.{IsItem, IsJob, IsWorkAt}
 use Rattle.rx_tick.specs.declared.states.State.{State}
-use Rattle.rx_tick.specs.Schedule.{Slot, Idle, Busy, Decide, Progress, start, completed, lost, ticked, after, sooner, job_in, same, progress, is_finished, ends_work, decides, tick_in, tick_of, slot_of, next_slot, slot_at, chosen, slots, Asked}
+use Rattle.rx_tick.specs.Schedule.{Slot, Idle, Busy, Decide, Progress, completed, lost, ticked, after, sooner, job_in, same, progress, is_finished, ends_work, decides, tick_in, tick_of, slot_of, next_slot, slot_at, chosen, slots, Asked}
 use Rattle.rx_tick.specs.declared.events.Event.{Event}
 use Rattle.rx_tick.specs.declared.events.Event.TheVariants.{Preempt}
 use Rattle.rx_tick.specs.Events.{last_job, preempted, decision, finish, finished_in, events_of, misses, releases}
@@ -440,6 +440,13 @@ preempted_is system past now last best mine by is e f comes =
     ∙ ap (preempted system past (Some mine)) f
     ∙ ap (λ (b : Bool). if b then Preempt (length past) mine by ∷ [] else []) comes
     ∙ ap (λ (n : ℕ). Preempt n mine by ∷ []) is
+
+pub preempted_not : (system : System) (past : List Slot) (last best : Option Job) (mine by : Job) → last ≡ Some mine → best ≡ Some by → (not (same mine by) && not (is_finished system past mine)) ≡ false
+    → preempted system past last best ≡ []
+preempted_not system past last best mine by e f comes =
+    ap (λ (o : Option Job). preempted system past o best) e
+    ∙ ap (preempted system past (Some mine)) f
+    ∙ ap (λ (b : Bool). if b then Preempt (length past) mine by ∷ [] else []) comes
 
 pub preempts_is : (system : System) (past : List Slot) (mine by : Job) (below : Bool) → same mine by ≡ false → is_finished system past mine ≡ not below → below ≡ (not (same mine by) && not (is_finished system past mine))
 preempts_is system past mine by below apart finished =

@@ -1,5 +1,5 @@
 -- Misses and releases, task by task, by what is kept of a task.
-use Rattle.std.proofs.Common.{ℕ, zero, suc, ◌≡◌, ◌≢◌, ◌≤◌, ◌<◌, ◌+◌, ◌-◌, ◌*◌, ◌==◌, ◌&&◌, nat_le, nat_lt, not, Bool, true, false, cond, List, [], ◌∷◌, ◌++◌, length, map, filter, refl, sym, ◌∙◌, ap, arith, subst, add-one, append_assoc, append-nil}
+use Rattle.std.proofs.Common.{ℕ, zero, suc, ◌≡◌, ◌≢◌, ◌≤◌, ◌<◌, ◌+◌, ◌-◌, ◌*◌, ◌==◌, ◌&&◌, nat_le, not, Bool, true, false, List, [], ◌∷◌, ◌++◌, length, map, filter, refl, sym, ◌∙◌, ap, arith, subst, add-one, append_assoc, append-nil}
 use Rattle.std.proofs.Common.{get_or, slice_set}
 use Rattle.std.proofs.lemmas.List.{get_or-set_other, length-set, get_or-map, length-map}
 use Rattle.std.proofs.lemmas.Grind.{get_or-set_at}
@@ -10,12 +10,11 @@ use Rattle.std.proofs.lemmas.Bool.{lt-leb, le-leb}
 use Rattle.std.proofs.lemmas.Bool.Decides.{nat_tests}
 use Rattle.rx_set.specs.declared.jobs.Job.{Job}
 use Rattle.rx_set.specs.System.{System, TaskRow, no_task, task_at, release, due}
-use Rattle.rx_set.specs.Valid.{IsValid, IsTaskRow}
+use Rattle.rx_set.specs.Valid.{IsValid}
 use Rattle.rx_set.proofs.Releases.{release_order, release_apart, number_bound}
 use Rattle.rx_tick.specs.declared.states.State.{State}
-use Rattle.rx_tick.specs.declared.events.Event.{Event}
 use Rattle.rx_tick.specs.declared.events.Event.TheVariants.{Miss, Release}
-use Rattle.rx_tick.specs.Schedule.{Slot, Progress, progress, is_finished, jobs_of, slots}
+use Rattle.rx_tick.specs.Schedule.{Slot, Progress, is_finished, jobs_of, slots}
 use Rattle.rx_tick.specs.Events.{is_missed, is_released_at, misses, releases}
 use Rattle.rx_tick.specs.States.{job, IsState, IsWatch, AreStates, AreWatched, is_late_at, no_state, state_at, misses_at, releases_at}
 use Rattle.rx_tick.proofs.Lists.{none_of, only_of, told_of, told_more}

@@ -1,5 +1,5 @@
 -- Totals of slots and events.
-use Rattle.std.specs.Prelude.{ℕ, ◌+◌, ◌<◌, ◌≡◌, Bool, true, false, if◌then◌else◌, List, [], ◌∷◌, count_by, length, Option, Some, None}
+use Rattle.std.specs.Prelude.{ℕ, ◌+◌, ◌<◌, Bool, true, false, List, [], ◌∷◌, count_by, length, Option, Some, None}
 use Rattle.rx_set.specs.declared.jobs.Job.{Job}
 use Rattle.rx_tick.specs.declared.events.Event.{Event}
 use Rattle.rx_tick.specs.declared.events.Event.TheVariants.{Miss, Release, Preempt, Reply, Retry, Finish}

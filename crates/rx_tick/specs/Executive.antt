@@ -1,5 +1,5 @@
 -- What an executive shows, and what it keeps.
-use Rattle.std.specs.Prelude.{ℕ, ◌≡◌, ◌≤◌, ◌^◌, List}
+use Rattle.std.specs.Prelude.{ℕ, ◌≤◌, ◌^◌, List}
 use Rattle.rx_set.specs.System.{System}
 use Rattle.rx_tick.specs.Schedule.{slots}
 use Rattle.rx_tick.specs.States.{AreStates, IsTurn}

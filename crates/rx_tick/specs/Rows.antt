@@ -1,10 +1,9 @@
 -- Worked schedules.
-use Rattle.std.specs.Prelude.{ℕ, ◌≡◌, refl, List, [], ◌∷◌, length, codes, Option, Some, None}
+use Rattle.std.specs.Prelude.{ℕ, ◌≡◌, refl, List, [], ◌∷◌, codes}
 use Rattle.rx_seq.specs.declared.kinds.Kind.TheVariants.{Cell, Queue}
-use Rattle.rx_seq.specs.declared.calls.Call.{Call}
 use Rattle.rx_seq.specs.declared.calls.Call.TheVariants.{Add, Put, Take}
 use Rattle.rx_seq.specs.declared.replies.Reply.TheVariants.{Done, Empty}
-use Rattle.rx_set.specs.declared.policies.Policy.TheVariants.{Rm, Dm, Edf}
+use Rattle.rx_set.specs.declared.policies.Policy.TheVariants.{Rm, Edf}
 use Rattle.rx_set.specs.declared.items.Item.{Item}
 use Rattle.rx_set.specs.declared.items.Item.TheVariants.{Work, Op}
 use Rattle.rx_set.specs.declared.jobs.Job.{Job}

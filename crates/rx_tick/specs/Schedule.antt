@@ -1,5 +1,5 @@
 -- The schedule of one processor. Slots are kept newest first, so slot n is the one with n slots behind it.
-use Rattle.std.specs.Prelude.{ℕ, zero, suc, ◌+◌, ◌==◌, ◌&&◌, ◌||◌, nat_lt, nat_le, not, Bool, true, false, if◌then◌else◌, List, [], ◌∷◌, ◌++◌, length, get_or, fold, filter, Option, Some, None}
+use Rattle.std.specs.Prelude.{ℕ, zero, suc, ◌+◌, ◌==◌, ◌&&◌, ◌||◌, nat_lt, nat_le, not, Bool, false, if◌then◌else◌, List, [], ◌∷◌, ◌++◌, length, fold, filter, Option, Some, None}
 use Rattle.std.specs.List.{flat_map}
 use Rattle.rx_seq.specs.declared.calls.Call.{Call}
 use Rattle.rx_seq.specs.declared.entries.Entry.{Entry}

@@ -1,5 +1,5 @@
 -- What the executive keeps, against the schedule.
-use Rattle.std.specs.Prelude.{ℕ, zero, suc, ◌≡◌, ◌==◌, ◌&&◌, ◌+◌, ◌-◌, ◌<◌, ◌≤◌, ◌^◌, Bool, true, false, if◌then◌else◌, nat_lt, Option, Some, None, List, [], length, get_or, map, filter}
+use Rattle.std.specs.Prelude.{ℕ, zero, suc, ◌≡◌, ◌==◌, ◌&&◌, ◌+◌, ◌<◌, ◌≤◌, ◌^◌, Bool, true, if◌then◌else◌, nat_lt, Option, None, List, [], length, get_or, map, filter}
 use Rattle.std.specs.Option.{ForSome}
 use Rattle.rx_set.specs.declared.jobs.Job.{Job}
 use Rattle.rx_set.specs.System.{System, TaskRow, task_at, task_of, item_at, release, due}
@@ -102,11 +102,11 @@ misses_at system past now task = map (Miss now) (filter (is_missed system past) 
 abbrev pub releases_at : System → ℕ → ℕ → List Event
 releases_at system now task = map (Release now) (filter (is_released_at system now) (jobs_of task (now + 1)))
 
--- no task has released more jobs than there were times
-pub record AreOffers (system : System) (now : ℕ) (states : List State) : Type 0 where
+-- the first unfinished job of each task can be asked for its key
+pub record AreOffers (system : System) (states : List State) : Type 0 where
   pub of : IsWorkSystem system
   pub count : length states ≡ length system.tasks
-  pub few : (task : ℕ) → task < length system.tasks → (state_at states task).released ≤ now + 1
+  pub few : (task : ℕ) → task < length system.tasks → (state_at states task).released ≤ 2 ^ 40
 
 -- the state of a task before the first slot
 abbrev pub first_state_of : TaskRow → State

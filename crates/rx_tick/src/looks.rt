@@ -161,12 +161,11 @@ fn sooner_of(set: &TaskSet, best: Option<Job>, job: Job) -> Option<Job>
 }
 
 /// The sooner of a job and the one that a task offers, which is its first unfinished job if that is released.
-fn offer_of(set: &TaskSet, best: Option<Job>, state: State, task: usize, now: u64) -> Option<Job>
+fn offer_of(set: &TaskSet, best: Option<Job>, state: State, task: usize) -> Option<Job>
     requires of { IsWorkSystem set.now }
     requires known { task < length set.now.tasks }
-    requires now { now < 2 ^ 40 }
     requires best { ForSome best (IsJob set.now) }
-    requires few { state.released ≤ now + 1 }
+    requires few { state.released ≤ 2 ^ 40 }
     ensures { result ≡ offer set.now best task state }
 {
     if state.finished < state.released {
@@ -180,14 +179,13 @@ fn offer_of(set: &TaskSet, best: Option<Job>, state: State, task: usize, now: u6
 }
 
 /// The pending job of least key: the soonest of those that the tasks offer.
-pub fn pick(set: &TaskSet, states: &[State], now: u64) -> Option<Job>
-    requires now { now < 2 ^ 40 }
-    requires states { AreOffers set.now now states.now }
+pub fn pick(set: &TaskSet, states: &[State]) -> Option<Job>
+    requires { AreOffers set.now states.now }
     ensures { result ≡ best_of set.now (length set.now.tasks) states.now }
 {
     let mut best = None;
     for task in 0..states.len() {
-        best = offer_of(set, best, states[task], task, now);
+        best = offer_of(set, best, states[task], task);
     }
     best
 }
@@ -218,5 +216,5 @@ pub fn look(
     tell_misses(set, states, now, events);
     count_releases(set, states, now, events);
     turn.watch = next_watch(set, states, now);
-    turn.best = pick(set, states, now);
+    turn.best = pick(set, states);
 }

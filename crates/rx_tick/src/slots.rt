@@ -3,8 +3,8 @@ ghost use Rattle.std.specs.Prelude.{ℕ, ◌≡◌, ◌≤◌, ◌<◌, ◌+◌,
 ghost use Rattle.std.specs.Option.{ForSome};
 ghost use Rattle.arrayvec.specs.ArrayVec.{array_vec_len};
 ghost use Rattle.rx_set.specs.Valid.{IsJob};
-ghost use Rattle.rx_set.specs.System.{task_of, item_at};
-ghost use Rattle.rx_tick.specs.Schedule.{slots, slot_at, job_in, same, is_finished, ends_work};
+ghost use Rattle.rx_set.specs.System.{System, task_of, item_at};
+ghost use Rattle.rx_tick.specs.Schedule.{Slot, slots, slot_at, job_in, same, is_finished, ends_work};
 ghost use Rattle.rx_tick.specs.Events.{preempted, finished_in, finish, events_of, decision};
 ghost use Rattle.rx_tick.specs.States.{AreStates, IsState, IsTurn, AreWatched, IsWorkSystem, best_of, after_tick};
 
@@ -23,12 +23,12 @@ fn is_same(a: Job, b: Job) -> bool
 }
 
 /// Whether a job that had the slot before is unfinished, and another job has this one.
-fn preempts(set: &TaskSet, states: &[State], job: Job, by: Job, now: u64) -> bool
-    requires states { AreStates set.now (slots set.now now) (now + 1) states.now }
-    requires job { IsJob set.now job }
-    ensures { result ≡ (not (same job by) && not (is_finished set.now (slots set.now now) job)) }
+fn preempts(states: &[State], job: Job, by: Job) -> bool
+    requires known { job.task < length states.now }
+    requires number { 1 ≤ job.number }
+    ensures { (system : System) (past : List Slot) (time : ℕ) → AreStates system past time states.now
+        → result ≡ (not (same job by) && not (is_finished system past job)) }
 {
-    let _now = now;
     if is_same(job, by) {
         return false;
     }
@@ -57,7 +57,7 @@ fn tell_preemption(
         Some(by) => by,
         None => return,
     };
-    if !preempts(set, states, job, by, now) {
+    if !preempts(states, job, by) {
         return;
     }
     events.push(Event::Preempt { at: now, job, by });
@@ -119,7 +119,7 @@ fn give_slot(
         return;
     }
     events.push(Event::Finish { at: now, job });
-    turn.best = pick(set, states, now);
+    turn.best = pick(set, states);
 }
 
 /// Makes the slot of a time whose misses and releases are told: gives it to the soonest job, if there is one.

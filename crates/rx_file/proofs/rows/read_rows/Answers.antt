@@ -6,6 +6,6 @@ use Rattle.rx_file.proofs.rows.read_rows.Goals as goal
 pub loop-value-preserved : goal.loop-value-preserved
 loop-value-preserved c = record {
   tasks = grind (arith, common_steps);
-  good = good_more _ _ _ c.in-Ok-push.ensures.items c.loop-value.invariant.good c.in-Ok.ensures.good (rw c.as_slice.ensures.value at c.in-Ok.ensures.new);
+  good = good_more _ _ _ c.in-Ok.ensures.items c.loop-value.invariant.good c.in_ok-task.ensures.good (rw c.as_slice.ensures.value at c.in_ok-task.ensures.new);
   count = grind (arith, common_steps);
 }

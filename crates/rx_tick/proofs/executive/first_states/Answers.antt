@@ -1,6 +1,5 @@
-use Rattle.std.proofs.Common.{◌∙◌, ap, map, arith, List}
-use Rattle.rx_set.specs.System.{TaskRow}
-use Rattle.rx_tick.specs.States.{first_state_of, IsWorkSystem}
+use Rattle.std.proofs.Common.{◌∙◌, ap, map, arith}
+use Rattle.rx_tick.specs.States.{first_state_of}
 use Rattle.rx_tick.proofs.Firsts.{firsts_all, first_states_are, first_turn}
 use Rattle.rx_tick.proofs.executive.first_states.Goals as goal
 

@@ -1,13 +1,11 @@
-use Rattle.std.proofs.Common.{◌∙◌, ◌≡◌, ◌+◌, ◌≤◌, ap, map, sym, subst, arith, List, ◌++◌, ℕ}
+use Rattle.std.proofs.Common.{◌∙◌, ◌+◌, ap, map, sym, subst, List, ◌++◌, ℕ}
 use Rattle.rx_set.specs.declared.jobs.Job.{Job}
 use Rattle.rx_set.specs.System.{TaskRow}
 use Rattle.rx_set.specs.declared.tasks.Task.{Task}
-use Rattle.rx_tick.specs.declared.events.Event.{Event}
 use Rattle.rx_tick.specs.declared.events.Event.TheVariants.{Release}
-use Rattle.rx_tick.specs.declared.states.State.{State}
 use Rattle.rx_tick.specs.Schedule.{slots}
 use Rattle.rx_tick.specs.States.{IsState}
-use Rattle.rx_tick.proofs.Told.{released_some, released_none, state_released, state_waits, append_none, row_is}
+use Rattle.rx_tick.proofs.Told.{released_some, released_none, state_released, append_none, row_is}
 use Rattle.rx_tick.proofs.looks.count_release.Goals as goal
 
 pub returns-then-state-now-clause-told : goal.returns-then-state-now-clause-told

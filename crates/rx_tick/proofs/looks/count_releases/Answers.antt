@@ -1,6 +1,5 @@
-use Rattle.std.proofs.Common.{rules, ◌∙◌, ap, sym, append-nil, arith, List, ◌++◌}
+use Rattle.std.proofs.Common.{◌∙◌, ap, sym, append-nil, arith, List, ◌++◌}
 use Rattle.rx_tick.specs.declared.events.Event.{Event}
-use Rattle.rx_tick.specs.Schedule.{slots}
 use Rattle.rx_tick.proofs.Told.{releases_more, releases_all, append_more, between_more}
 use Rattle.rx_tick.proofs.looks.count_releases.Goals as goal
 

@@ -1,9 +1,5 @@
-use Rattle.std.proofs.Common.{◌≡◌, ◌∙◌, ap, sym, subst, arith, append-nil, List, ◌++◌, []}
-use Rattle.rx_tick.specs.declared.events.Event.{Event}
-use Rattle.rx_tick.specs.Schedule.{slots}
-use Rattle.rx_tick.specs.Events.{misses, releases}
+use Rattle.std.proofs.Common.{◌∙◌}
 use Rattle.rx_tick.proofs.Told.{quiet_misses, quiet_releases, quiet_states, quiet_watch, append_none}
-use Rattle.rx_tick.proofs.Chosen.{offers_from}
 use Rattle.rx_tick.proofs.looks.look.Goals as goal
 
 pub returns-then-now-turn-clause-told : goal.returns-then-now-turn-clause-told

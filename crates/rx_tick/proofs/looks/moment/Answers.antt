@@ -1,5 +1,4 @@
-use Rattle.std.proofs.Common.{arith}
-use Rattle.rx_tick.proofs.Told.{watch_due, watch_next, row_is}
+use Rattle.rx_tick.proofs.Told.{watch_due, row_is}
 use Rattle.rx_tick.proofs.looks.moment.Goals as goal
 
 pub returns-then-now-row : goal.returns-then-now-row

@@ -1,4 +1,4 @@
-use Rattle.std.proofs.Common.{arith, ℕ, sym, subst, min, ◌≡◌, ◌+◌}
+use Rattle.std.proofs.Common.{arith, ℕ, subst, ◌≡◌, ◌+◌}
 use Rattle.std.proofs.Math.Decide.{dec_le}
 use Rattle.rx_tick.specs.States.{IsWatch, state_at}
 use Rattle.rx_tick.proofs.Told.{watch_sooner}

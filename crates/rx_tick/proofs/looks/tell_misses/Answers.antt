@@ -1,4 +1,4 @@
-use Rattle.std.proofs.Common.{rules, ◌∙◌, ap, sym, append-nil, arith, List, ◌++◌}
+use Rattle.std.proofs.Common.{◌∙◌, ap, sym, append-nil, arith, List, ◌++◌}
 use Rattle.rx_tick.specs.declared.events.Event.{Event}
 use Rattle.rx_tick.specs.Schedule.{slots}
 use Rattle.rx_tick.proofs.Told.{misses_more, misses_all, append_more}

@@ -1,5 +1,5 @@
-use Rattle.std.proofs.Common.{◌+◌, ◌≡◌, ap, sym, arith}
-use Rattle.rx_tick.specs.Schedule.{Progress, progress, slots}
+use Rattle.std.proofs.Common.{◌+◌, ap, arith}
+use Rattle.rx_tick.specs.Schedule.{Progress, slots}
 use Rattle.rx_tick.specs.States.{job}
 use Rattle.rx_tick.proofs.Told.{length-slots}
 use Rattle.rx_tick.proofs.Moves.{made_bound}

@@ -1,4 +1,4 @@
-use Rattle.std.proofs.Common.{◌+◌, ◌-◌, ◌≡◌, ℕ, subst, sym, arith}
+use Rattle.std.proofs.Common.{◌+◌, ◌-◌, ◌≡◌, subst, arith}
 use Rattle.rx_set.specs.Valid.{IsWorkAt}
 use Rattle.rx_tick.proofs.Moves.{work_at}
 use Rattle.rx_tick.proofs.slots.ends_item.Goals as goal

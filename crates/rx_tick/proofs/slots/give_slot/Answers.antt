@@ -1,11 +1,9 @@
-use Rattle.std.proofs.Common.{◌≡◌, ◌∙◌, ◌+◌, ◌∷◌, [], ◌++◌, List, ℕ, Bool, if◌then◌else◌, length, slice_set, ap, sym, subst, arith}
-use Rattle.rx_tick.specs.declared.events.Event.{Event}
+use Rattle.std.proofs.Common.{◌∙◌, ◌+◌, ◌∷◌, [], ◌++◌, ℕ, Bool, if◌then◌else◌, length, slice_set, ap, sym, subst}
 use Rattle.rx_tick.specs.declared.events.Event.TheVariants.{Finish}
 use Rattle.rx_tick.specs.declared.states.State.{State}
 use Rattle.rx_tick.specs.Schedule.{slots}
 use Rattle.rx_tick.specs.States.{AreStates, AreWatched, best_of}
 use Rattle.rx_tick.proofs.Told.{append_none, length-slots}
-use Rattle.rx_tick.proofs.Chosen.{offers_from}
 use Rattle.rx_tick.proofs.Moves.{offered_here, state_here, job_here, states_after, best_after, watch_after, done, not_done}
 use Rattle.rx_tick.proofs.slots.give_slot.Goals as goal
 
