@@ -12,6 +12,7 @@ use Rattle.rx_set.specs.System.{System, parts_of, item_at, attempt_cost}
 use Rattle.rx_tick.specs.Schedule.{Slot, Busy, Decide, Progress, ticked, job_in, history, wins_on, won_after, slots, slot_at}
 use Rattle.rx_tick.specs.Laws.{who, so_far, owned, slots_of, IsSpoiled}
 use Rattle.rx_tick.proofs.Prefixes.{slots_count}
+use Rattle.rx_tick.proofs.Choices.{both}
 use Rattle.rx_tick.proofs.Steps.{IsOwn, Goes, Works, Loses, Wins, IsEither, Own, Other, either, own_at, same_self}
 use Rattle.rx_tick.proofs.Shares.{cost_some}
 
@@ -137,11 +138,6 @@ or_cases : (a b : Bool) → (a || b) ≡ true → (a ≡ true) ⊎ (b ≡ true)
 or_cases true b e = inl refl
 or_cases false b e = inr e
 
-and_both : (a b : Bool) → (a && b) ≡ true → (a ≡ true) × (b ≡ true)
-and_both true true e = (refl, refl)
-and_both true false e = absurd (false≢true e)
-and_both false b e = absurd (false≢true e)
-
 or_right : (a b : Bool) → b ≡ true → (a || b) ≡ true
 or_right true b e = refl
 or_right false b e = e
@@ -152,7 +148,7 @@ won_at system object first zero e = absurd (false≢true e)
 won_at system object first (suc n) e =
     elim (or_cases (wins_on object (slot_at system n) && nat_lt first (length (slots system n))) (won_after object first (slots system n)) e) [
       | inl here ↦
-          let parts = and_both (wins_on object (slot_at system n)) (nat_lt first (length (slots system n))) here in
+          let parts = both (wins_on object (slot_at system n)) (nat_lt first (length (slots system n))) here in
           let counted : length (slots system n) ≡ n = slots_count system n in
           let later : first < length (slots system n) = later_than first (length (slots system n)) parts.1 in
           record { at = n; after = omega arith; before = omega arith; wins = parts.0 }

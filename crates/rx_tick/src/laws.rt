@@ -30,16 +30,18 @@ pub fn slots_go_to_the_least()
     ensures busy { (system : System) (n : ℕ) (job : Job) → IsValid system → (who system n ≡ Some job) ↔ IsLeastAt system n job }
 {}
 
-/// The events of the first n slots tell each preemption in them, and only these. The job that preempts was released in that very slot, and its key is lower.
+/// The events of the first n slots tell each preemption in them, and only these. The job that preempts was released in
+/// that very slot, and its key is lower.
 pub fn preemptions_are_releases()
     ensures told { (system : System) (n at : ℕ) (job by : Job) → Contains (events system n) (Preempt at job by) ↔ ((at < n) × IsPreemption system at job by) }
     ensures released { (system : System) (n at : ℕ) (job by : Job) → IsValid system → Contains (events system n) (Preempt at job by) → release system by ≡ at }
     ensures below { (system : System) (n at : ℕ) (job by : Job) → IsValid system → Contains (events system n) (Preempt at job by) → is_below (key system by) (key system job) ≡ true }
 {}
 
-/// The slots of a job are cut into its items in turn: what its complete items ask for, then what is in hand, which is less than
-/// the next item asks for, beside the attempts that were lost. So a job that is finished has had exactly the ticks of its items and of its lost attempts,
-/// and one that is not finished fewer. A job without operations loses no attempt.
+/// The slots of a job are cut into its items in turn: what its complete items ask for, then what is in hand, which is
+/// less than the next item asks for, beside the attempts that were lost. So a job that is finished has had exactly the
+/// ticks of its items and of its lost attempts, and one that is not finished fewer. A job without operations loses no
+/// attempt.
 pub fn jobs_take_their_items()
     ensures cut { (system : System) (n : ℕ) (job : Job) →
         slots_of job (slots system n) ≡ asked_up_to system job (so_far system job n).complete + (so_far system job n).made + lost_ticks system job (slots system n) }
