@@ -10,3 +10,4 @@ pub mod Preemptions
 pub mod Shares
 pub mod Attempts
 pub mod Entries
+pub mod Joins

@@ -144,30 +144,30 @@ best_set system states task new known tests finished zero = refl
 best_set system states task new known tests finished (suc tasks) =
     ap (λ (best : Option Job). offer system best tasks (state_at (slice_set states task new) tasks)) (best_set system states task new known tests finished tasks)
     ∙ elim (dec_le tasks task) [
-        yes below ↦ elim (dec_le task tasks) [
-          yes above ↦
-              let here : tasks ≡ task = omega arith in
-              ap (offer system (best_of system tasks states) tasks) (get_or-set_at states task tasks new no_state here known)
-              ∙ offer_same system (best_of system tasks states) tasks (state_at states tasks) new
-                  (tests ∙ ap (λ (t : ℕ). nat_lt (state_at states t).finished (state_at states t).released) (sym here)) (finished ∙ ap (λ (t : ℕ). (state_at states t).finished) (sym here))
+      | yes below ↦ elim (dec_le task tasks) [
+        | yes above ↦
+            let here : tasks ≡ task = omega arith in
+            ap (offer system (best_of system tasks states) tasks) (get_or-set_at states task tasks new no_state here known)
+            ∙ offer_same system (best_of system tasks states) tasks (state_at states tasks) new
+            (tests ∙ ap (λ (t : ℕ). nat_lt (state_at states t).finished (state_at states t).released) (sym here)) (finished ∙ ap (λ (t : ℕ). (state_at states t).finished) (sym here))
         | no before ↦ ap (offer system (best_of system tasks states) tasks) (get_or-set_other states task tasks new no_state (λ e. absurd (omega arith)))
-        ]
-      | no after ↦ ap (offer system (best_of system tasks states) tasks) (get_or-set_other states task tasks new no_state (λ e. absurd (omega arith)))
       ]
+      | no after ↦ ap (offer system (best_of system tasks states) tasks) (get_or-set_other states task tasks new no_state (λ e. absurd (omega arith)))
+    ]
 
 -- it leaves when jobs are due, if no more of them are unfinished
 pub due_set : (system : System) (time watch : ℕ) (states : List State) (task : ℕ) (new : State) → task < length states → new.released ≡ (state_at states task).released
     → (state_at states task).finished ≤ new.finished → AreBeforeDue system time watch states → AreBeforeDue system time watch (slice_set states task new)
 due_set system time watch states task new known released finished watched = record {
   each = λ other inside. elim (dec_le other task) [
-      yes below ↦ elim (dec_le task other) [
-        yes above ↦
-            let here : other ≡ task = omega arith in
-            subst (IsBeforeDue system time watch other) (sym (get_or-set_at states task other new no_state here known)) (same_due other here inside)
+    | yes below ↦ elim (dec_le task other) [
+      | yes above ↦
+          let here : other ≡ task = omega arith in
+          subst (IsBeforeDue system time watch other) (sym (get_or-set_at states task other new no_state here known)) (same_due other here inside)
       | no before ↦ subst (IsBeforeDue system time watch other) (sym (get_or-set_other states task other new no_state (λ e. absurd (omega arith)))) (watched.each other inside)
-      ]
+    ]
     | no after ↦ subst (IsBeforeDue system time watch other) (sym (get_or-set_other states task other new no_state (λ e. absurd (omega arith)))) (watched.each other inside)
-    ];
+  ];
 }
   where
     same_due : (other : ℕ) → other ≡ task → other < length system.tasks → IsBeforeDue system time watch other new
@@ -176,22 +176,22 @@ due_set system time watch states task new known released finished watched = reco
         let released_here : new.released ≡ (state_at states other).released = released ∙ ap (λ (t : ℕ). (state_at states t).released) (sym here) in
         let finished_here : (state_at states other).finished ≤ new.finished = subst (λ (t : ℕ). (state_at states t).finished ≤ new.finished) (sym here) finished in
         λ some later. subst (λ (n : ℕ). watch ≤ due system (job other n)) (sym released_here)
-            (old (omega arith) (subst (λ (n : ℕ). time ≤ due system (job other n)) released_here later))
+        (old (omega arith) (subst (λ (n : ℕ). time ≤ due system (job other n)) released_here later))
 
 -- and when jobs are released, if that stays
 pub release_set : (system : System) (watch : ℕ) (states : List State) (task : ℕ) (new : State) → task < length states → new.next ≡ (state_at states task).next
     → AreBeforeRelease system watch states → AreBeforeRelease system watch (slice_set states task new)
 release_set system watch states task new known next watched = record {
   each = λ other inside. elim (dec_le other task) [
-      yes below ↦ elim (dec_le task other) [
-        yes above ↦
-            let here : other ≡ task = omega arith in
-            subst (λ (s : State). watch ≤ s.next) (sym (get_or-set_at states task other new no_state here known))
-                (subst (λ (n : ℕ). watch ≤ n) (ap (λ (t : ℕ). (state_at states t).next) here ∙ sym next) (watched.each other inside))
+    | yes below ↦ elim (dec_le task other) [
+      | yes above ↦
+          let here : other ≡ task = omega arith in
+          subst (λ (s : State). watch ≤ s.next) (sym (get_or-set_at states task other new no_state here known))
+          (subst (λ (n : ℕ). watch ≤ n) (ap (λ (t : ℕ). (state_at states t).next) here ∙ sym next) (watched.each other inside))
       | no before ↦ subst (λ (s : State). watch ≤ s.next) (sym (get_or-set_other states task other new no_state (λ e. absurd (omega arith)))) (watched.each other inside)
-      ]
+    ]
     | no after ↦ subst (λ (s : State). watch ≤ s.next) (sym (get_or-set_other states task other new no_state (λ e. absurd (omega arith)))) (watched.each other inside)
-    ];
+  ];
 }
 
 -- what a tick does to the counts

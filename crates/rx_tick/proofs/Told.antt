@@ -1,6 +1,6 @@
 -- Misses and releases, task by task, by what is kept of a task.
 use Rattle.std.proofs.Common.{ℕ, zero, suc, ◌≡◌, ◌≢◌, ◌≤◌, ◌<◌, ◌+◌, ◌-◌, ◌*◌, ◌==◌, ◌&&◌, nat_le, not, Bool, true, false, List, [], ◌∷◌, ◌++◌, length, map, filter, refl, sym, ◌∙◌, ap, arith, subst, add-one, append_assoc, append-nil}
-use Rattle.std.proofs.Common.{get_or, slice_set}
+use Rattle.std.proofs.Common.{get_or, slice_set, min}
 use Rattle.std.proofs.lemmas.List.{get_or-set_other, length-set, get_or-map, length-map}
 use Rattle.std.proofs.lemmas.Grind.{get_or-set_at}
 use Rattle.std.proofs.Math.Decide.{dec_le}
@@ -223,27 +223,27 @@ quiet make test n (suc tasks) h =
 
 not_late : (system : System) (past : List Slot) (time task watch : ℕ) (s : State) → IsState system past time task s → IsBeforeDue system time watch task s → time < watch → is_late_at (task_at system task) time s ≡ false
 not_late system past time task watch s kept watched early = elim (dec_le s.released s.finished) [
-    yes none ↦ grind (arith, nat_tests)
+  | yes none ↦ grind (arith, nat_tests)
   | no some ↦
       let due_then : due system (job task s.released) + (task_at system task).period ≡ s.next + (task_at system task).deadline = due_is system past time task s kept (omega arith) in
       let watched_then : time ≤ due system (job task s.released) → watch ≤ due system (job task s.released) = watched (omega arith) in
       let apart : s.next + (task_at system task).deadline ≢ time + (task_at system task).period = λ e. absurd (omega (arith, watched_then (omega arith))) in
       grind (arith, nat_tests)
-  ]
+]
 
 module _ (system : System) (now watch : ℕ) (states : List State) (kept : AreStates system (slots system now) now states) (early : now < watch) where
   pub quiet_misses : AreBeforeDue system now watch states → misses system (slots system now) ≡ []
   quiet_misses watched =
       sym (misses_all system now (length system.tasks) refl)
       ∙ quiet (Miss now) (is_missed system (slots system now)) now (length system.tasks) (λ task known.
-          missed_none system (slots system now) now task (state_at states task) (kept.each task known) kept.of.valid known (length-slots system now)
-              (not_late system (slots system now) now task watch (state_at states task) (kept.each task known) (watched.each task known) early))
+      missed_none system (slots system now) now task (state_at states task) (kept.each task known) kept.of.valid known (length-slots system now)
+      (not_late system (slots system now) now task watch (state_at states task) (kept.each task known) (watched.each task known) early))
 
   pub quiet_releases : AreBeforeRelease system watch states → releases system now ≡ []
   quiet_releases watched =
       quiet (Release now) (is_released_at system now) now (length system.tasks) (λ task known.
-          released_none system (slots system now) now task (state_at states task) (kept.each task known) kept.of.valid known
-              (λ e. absurd (omega (arith, watched.each task known))))
+      released_none system (slots system now) now task (state_at states task) (kept.each task known) kept.of.valid known
+      (λ e. absurd (omega (arith, watched.each task known))))
 
   pub quiet_states : AreBeforeRelease system watch states → AreStates system (slots system now) (now + 1) states
   quiet_states watched = record {
@@ -309,3 +309,41 @@ between_more system past time tasks states s kept known next = record {
   ];
   rest = λ task above inside. subst (IsState system past time task) (sym (get_or-set_other states tasks task s no_state (λ e. absurd (omega arith)))) (kept.rest task (omega arith) inside);
 }
+
+-- a state that is written, and the others
+pub due_write : (system : System) (time watch sooner : ℕ) (states : List State) (task : ℕ) (new : State) → task < length states → AreBeforeDue system time watch states → sooner ≤ watch
+    → IsBeforeDue system time sooner task new → AreBeforeDue system time sooner (slice_set states task new)
+due_write system time watch sooner states task new inside watched h here = record {
+  each = λ other known. elim (dec_le other task) [
+    | yes below ↦ elim (dec_le task other) [
+      | yes above ↦
+          let same : other ≡ task = omega arith in
+          subst (IsBeforeDue system time sooner other) (sym (get_or-set_at states task other new no_state same inside)) (subst (λ (t : ℕ). IsBeforeDue system time sooner t new) (sym same) here)
+      | no before ↦ other_due other known (λ e. absurd (omega arith))
+    ]
+    | no after ↦ other_due other known (λ e. absurd (omega arith))
+  ];
+}
+  where
+    other_due : (other : ℕ) → other < length system.tasks → other ≢ task → IsBeforeDue system time sooner other (state_at (slice_set states task new) other)
+    other_due other known apart =
+        subst (IsBeforeDue system time sooner other) (sym (get_or-set_other states task other new no_state apart))
+        (due_sooner system time other watch sooner (state_at states other) (watched.each other known) h)
+
+pub next_write : (states : List State) (tasks next : ℕ) (new : State) → tasks < length states → ((task : ℕ) → task < tasks → next ≤ (state_at states task).next)
+    → (task : ℕ) → task < tasks + 1 → min next new.next ≤ (state_at (slice_set states tasks new) task).next
+next_write states tasks next new inside before task below = elim (dec_le tasks task) [
+  | yes at ↦
+      let same : task ≡ tasks = omega arith in
+      subst (λ (s : State). min next new.next ≤ s.next) (sym (get_or-set_at states tasks task new no_state same inside)) (omega arith)
+  | no first ↦
+      subst (λ (s : State). min next new.next ≤ s.next) (sym (get_or-set_other states tasks task new no_state (λ e. absurd (omega arith)))) (omega (arith, before task (omega arith)))
+]
+
+-- each task's released jobs are at most as many as there were times
+pub between_few : (system : System) (past : List Slot) (time tasks : ℕ) (states : List State) → AreBetween system past time tasks states → IsValid system
+    → (task : ℕ) → task < length system.tasks → (state_at states task).released ≤ time + 1
+between_few system past time tasks states kept valid task known = elim (dec_le (task + 1) tasks) [
+  | yes below ↦ released_bound system past (time + 1) task (state_at states task) (kept.done task (omega arith)) valid known
+  | no above ↦ omega (arith, released_bound system past time task (state_at states task) (kept.rest task (omega arith) known) valid known)
+]

@@ -1,7 +1,6 @@
 use Rattle.std.proofs.Common.{◌∙◌, ◌+◌, ap, map, sym, subst, List, ◌++◌, ℕ}
 use Rattle.rx_set.specs.declared.jobs.Job.{Job}
 use Rattle.rx_set.specs.System.{TaskRow}
-use Rattle.rx_set.specs.declared.tasks.Task.{Task}
 use Rattle.rx_tick.specs.declared.events.Event.TheVariants.{Release}
 use Rattle.rx_tick.specs.Schedule.{slots}
 use Rattle.rx_tick.specs.States.{IsState}
@@ -19,7 +18,7 @@ returns-clause-state c =
     let is = row_is c.tasks.result.now c.args.set.now c.args.task c.index-tasks-task.result c.tasks.ensures.rows c.requires.known c.index-tasks-task.is in
     let P : ℕ → Type 0 = λ period. IsState c.args.set.now past (c.args.now + 1) c.args.task
     (record c.args.state { released = c.args.state.released + 1; next = c.args.state.next + period }) in
-    subst P (ap (λ (r : TaskRow). r.period) is ∙ ap (λ (t : Task). t.period) c.index-tasks-task.is)
+    subst P (ap (λ (r : TaskRow). r.period) is)
     (state_released c.args.set.now past c.args.now c.args.task c.args.state c.requires.state c.requires.of.valid c.requires.known c.if-state-now.false)
 
 pub returns-clause-told : goal.returns-clause-told

@@ -1,4 +1,7 @@
-use Rattle.std.proofs.Common.{◌∙◌}
+use Rattle.std.proofs.Common.{◌∙◌, ◌++◌, ap, List}
+use Rattle.rx_tick.specs.declared.events.Event.{Event}
+use Rattle.rx_tick.specs.declared.turns.Turn.{Turn}
+use Rattle.rx_tick.specs.Events.{releases}
 use Rattle.rx_tick.proofs.Moves.{job_of_slot, last_of_next, all_told}
 use Rattle.rx_tick.proofs.slots.make_slot.Goals as goal
 
@@ -7,5 +10,8 @@ returns-clause-slot c = c.take_slot.ensures.turn.last ∙ last_of_next c.args.se
 
 pub returns-clause-told : goal.returns-clause-told
 returns-clause-told c =
-    all_told c.args.set.now c.args.now _ _ _ _ _ _ c.requires.empty (c.look.ensures.last ∙ c.requires.turn.last)
-    (c.look.ensures.best ∙ job_of_slot c.args.set.now c.args.now c.look.new.states c.look.ensures.states) c.look.ensures.told c.tell_preemption.ensures.told c.take_slot.ensures.told
+    all_told c.args.set.now c.args.now _ _ _ _ _ _ c.requires.empty
+    (c.look_at_releases.ensures.last ∙ ap (λ (t : Turn). t.last) c.look_at_dues.ensures.others ∙ c.requires.turn.last)
+    (c.look_at_releases.ensures.best ∙ job_of_slot c.args.set.now c.args.now c.look_at_releases.new.states c.look_at_releases.ensures.states)
+    (c.look_at_releases.ensures.told ∙ ap (λ (es : List Event). es ++ releases c.args.set.now c.args.now) c.look_at_dues.ensures.told)
+    c.tell_preemption.ensures.told c.take_slot.ensures.told
