@@ -1,0 +1,6 @@
+use Rattle.std.proofs.Common.{arith}
+use Rattle.rx_file.proofs.Valid.{valid}
+use Rattle.rx_file.proofs.sets.read_file.Goals as goal
+
+pub build-requires : goal.build-requires
+build-requires c = valid _ _ c.in_ok-tasks.ensures.good (omega (arith, c.in_ok-tasks.ensures.count, c.in_ok-rows.ensures.length)) (omega (arith, c.in_ok-tasks.ensures.count, c.in_ok-rows.ensures.length))

@@ -1,0 +1,5 @@
+pub mod Steps
+pub mod Texts
+pub mod Fields
+pub mod SetOf
+pub mod Gives

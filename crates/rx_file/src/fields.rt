@@ -1,0 +1,221 @@
+// The keys of a table, and what stands there.
+ghost use Rattle.std.specs.Prelude.{◌≡◌, ◌≤◌, true, map, IfOk, option_map};
+ghost use Rattle.std.specs.List.{list_all};
+ghost use Rattle.toml.specs.Data.{get_member};
+ghost use Rattle.toml.specs.View.{view, items_view, table_view};
+ghost use Rattle.rx_set.specs.Names.{is_name, is_name_byte};
+ghost use Rattle.rx_set.specs.Valid.{task_name};
+ghost use Rattle.rx_set.specs.View.{row_of};
+ghost use Rattle.rx_file.specs.Fields.{key_of, value_at, text_at, array_at, name_at, in_range, number_in, number_at, number_or, is_key, has_only, only_keys};
+ghost use Rattle.rx_file.specs.Gives.{Shows};
+
+use crate::faults::{FileFault, Label};
+use crate::places::Place;
+use rx_set::Name;
+use toml::{Table, Value};
+
+/// What a key holds.
+fn find<'a>(row: &'a Table, label: Label) -> Option<&'a Value>
+    ensures { option_map (λ v. view v.now) result ≡ get_member (key_of label) (table_view row.now) }
+{
+    row.get(label.key())
+}
+
+/// What a key holds, which must stand.
+#[tactic(auto, unfolding(crate::specs::Fields::value_at))]
+fn value_at<'a>(place: Place, label: Label, row: &'a Table) -> Result<&'a Value, FileFault>
+    ensures { Shows (λ v. view v.now) (value_at place label (table_view row.now)) result }
+{
+    match find(row, label) {
+        Some(value) => Ok(value),
+        None => Err(place.field(label)),
+    }
+}
+
+/// The string at a key.
+#[tactic(auto, unfolding(crate::specs::Fields::text_at))]
+fn text_at<'a>(place: Place, label: Label, row: &'a Table) -> Result<&'a str, FileFault>
+    ensures { Shows (λ text. text.now) (text_at place label (table_view row.now)) result }
+{
+    match value_at(place, label, row) {
+        Ok(value) => match value.as_str() {
+            Some(text) => Ok(text),
+            None => Err(place.field(label)),
+        },
+        Err(fault) => Err(fault),
+    }
+}
+
+/// The array at a key.
+#[tactic(auto, unfolding(crate::specs::Fields::array_at))]
+pub(crate) fn array_at<'a>(
+    place: Place,
+    label: Label,
+    row: &'a Table,
+) -> Result<&'a [Value], FileFault>
+    ensures { Shows (λ rows. items_view rows.now) (array_at place label (table_view row.now)) result }
+{
+    match value_at(place, label, row) {
+        Ok(value) => match value.as_array() {
+            Some(rows) => Ok(rows.as_slice()),
+            None => Err(place.field(label)),
+        },
+        Err(fault) => Err(fault),
+    }
+}
+
+/// Whether all bytes are letters, digits or `_`.
+fn are_name_bytes(name: &[u8]) -> bool
+    ensures { result ≡ list_all is_name_byte name.now }
+{
+    for byte in name {
+        if !(byte.is_ascii_alphanumeric() || *byte == b'_') {
+            return false;
+        }
+    }
+    true
+}
+
+/// Whether a text is a name.
+fn is_name(name: &[u8]) -> bool
+    ensures { result ≡ is_name name.now }
+{
+    1 <= name.len() && name.len() <= 16 && name[0].is_ascii_alphabetic() && are_name_bytes(name)
+}
+
+/// The name at `name`.
+#[tactic(auto, unfolding(crate::specs::Fields::name_at))]
+pub(crate) fn name_at(place: Place, row: &Table) -> Result<Name, FileFault>
+    ensures value { Shows (λ name. name.bytes) (name_at place (table_view row.now)) result }
+    ensures name { IfOk result (λ name. is_name name.bytes ≡ true) }
+{
+    match text_at(place, Label::Name, row) {
+        Ok(text) => {
+            if is_name(text.as_bytes()) {
+                let mut name = Name::new();
+                name.push_str(text);
+                Ok(name)
+            } else {
+                Err(FileFault::Name {
+                    section: place.section,
+                    row: place.row,
+                })
+            }
+        }
+        Err(fault) => Err(fault),
+    }
+}
+
+/// An integer from least to most.
+fn in_range(
+    place: Place,
+    label: Label,
+    least: u64,
+    most: u64,
+    number: i64,
+) -> Result<u64, FileFault>
+    ensures value { result ≡ in_range place label least most number }
+    ensures range { IfOk result (λ n. (least ≤ n) × (n ≤ most)) }
+{
+    if number < 0 {
+        return Err(place.range(label));
+    }
+    let n = number as u64;
+    if least <= n && n <= most {
+        Ok(n)
+    } else {
+        Err(place.range(label))
+    }
+}
+
+/// The number that a value is.
+#[tactic(auto, unfolding(crate::specs::Fields::number_in))]
+fn number_in(
+    place: Place,
+    label: Label,
+    least: u64,
+    most: u64,
+    value: &Value,
+) -> Result<u64, FileFault>
+    ensures value { result ≡ number_in place label least most (view value.now) }
+    ensures range { IfOk result (λ n. (least ≤ n) × (n ≤ most)) }
+{
+    match value.as_integer() {
+        Some(number) => in_range(place, label, least, most, number),
+        None => Err(place.field(label)),
+    }
+}
+
+/// The number at a key that must stand.
+#[tactic(auto, unfolding(crate::specs::Fields::number_at))]
+pub(crate) fn number_at(
+    place: Place,
+    label: Label,
+    least: u64,
+    most: u64,
+    row: &Table,
+) -> Result<u64, FileFault>
+    ensures value { result ≡ number_at place label least most (table_view row.now) }
+    ensures range { IfOk result (λ n. (least ≤ n) × (n ≤ most)) }
+{
+    match value_at(place, label, row) {
+        Ok(value) => number_in(place, label, least, most, value),
+        Err(fault) => Err(fault),
+    }
+}
+
+/// The number at a key that may be left out.
+#[tactic(auto, unfolding(crate::specs::Fields::number_or))]
+pub(crate) fn number_or(
+    place: Place,
+    label: Label,
+    default: u64,
+    least: u64,
+    most: u64,
+    row: &Table,
+) -> Result<u64, FileFault>
+    requires { (least ≤ default) × (default ≤ most) }
+    ensures value { result ≡ number_or place label default least most (table_view row.now) }
+    ensures range { IfOk result (λ n. (least ≤ n) × (n ≤ most)) }
+{
+    match find(row, label) {
+        Some(value) => number_in(place, label, least, most, value),
+        None => Ok(default),
+    }
+}
+
+/// Whether a key is that of one of the labels.
+fn is_key(labels: &[Label], key: &str) -> bool
+    ensures { result ≡ is_key labels.now key.now }
+{
+    for label in labels {
+        if label.key().as_bytes() == key.as_bytes() {
+            return true;
+        }
+    }
+    false
+}
+
+/// Whether each key is that of one of the labels.
+fn has_only(labels: &[Label], row: &Table) -> bool
+    ensures { result ≡ has_only labels.now (table_view row.now) }
+{
+    for (key, _) in row.iter() {
+        if !is_key(labels, key.as_str()) {
+            return false;
+        }
+    }
+    true
+}
+
+/// Refuses a key that has no meaning there.
+#[tactic(auto, unfolding(crate::specs::Fields::only_keys))]
+pub(crate) fn only_keys(place: Place, labels: &[Label], row: &Table) -> Result<(), FileFault>
+    ensures { result ≡ only_keys place labels.now (table_view row.now) }
+{
+    if has_only(labels, row) {
+        Ok(())
+    } else {
+        Err(place.field(Label::Other))
+    }
+}

@@ -1,0 +1,14 @@
+//! Reads a task file, a document in TOML, into a set of tasks, and names the first fault of one that is no set.
+#![tactic(auto)]
+
+mod faults;
+mod fields;
+mod items;
+mod places;
+mod rows;
+mod sets;
+mod texts;
+
+pub use faults::{FileFault, Label, Section};
+pub use sets::read_set;
+pub use texts::number_of;
