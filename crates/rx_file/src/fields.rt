@@ -1,11 +1,9 @@
 // The keys of a table, and what stands there.
-ghost use Rattle.std.specs.Prelude.{◌≡◌, ◌≤◌, true, map, IfOk, option_map};
+ghost use Rattle.std.specs.Prelude.{◌≡◌, ◌≤◌, true, IfOk, option_map};
 ghost use Rattle.std.specs.List.{list_all};
 ghost use Rattle.toml.specs.Data.{get_member};
 ghost use Rattle.toml.specs.View.{view, items_view, table_view};
 ghost use Rattle.rx_set.specs.Names.{is_name, is_name_byte};
-ghost use Rattle.rx_set.specs.Valid.{task_name};
-ghost use Rattle.rx_set.specs.View.{row_of};
 ghost use Rattle.rx_file.specs.Fields.{key_of, value_at, text_at, array_at, name_at, in_range, number_in, number_at, number_or, is_key, has_only, only_keys};
 ghost use Rattle.rx_file.specs.Gives.{Shows};
 
@@ -26,10 +24,7 @@ fn find<'a>(row: &'a Table, label: Label) -> Option<&'a Value>
 fn value_at<'a>(place: Place, label: Label, row: &'a Table) -> Result<&'a Value, FileFault>
     ensures { Shows (λ v. view v.now) (value_at place label (table_view row.now)) result }
 {
-    match find(row, label) {
-        Some(value) => Ok(value),
-        None => Err(place.field(label)),
-    }
+    find(row, label).ok_or(place.field(label))
 }
 
 /// The string at a key.
@@ -37,13 +32,9 @@ fn value_at<'a>(place: Place, label: Label, row: &'a Table) -> Result<&'a Value,
 fn text_at<'a>(place: Place, label: Label, row: &'a Table) -> Result<&'a str, FileFault>
     ensures { Shows (λ text. text.now) (text_at place label (table_view row.now)) result }
 {
-    match value_at(place, label, row) {
-        Ok(value) => match value.as_str() {
-            Some(text) => Ok(text),
-            None => Err(place.field(label)),
-        },
-        Err(fault) => Err(fault),
-    }
+    value_at(place, label, row)?
+        .as_str()
+        .ok_or(place.field(label))
 }
 
 /// The array at a key.
@@ -55,12 +46,9 @@ pub(crate) fn array_at<'a>(
 ) -> Result<&'a [Value], FileFault>
     ensures { Shows (λ rows. items_view rows.now) (array_at place label (table_view row.now)) result }
 {
-    match value_at(place, label, row) {
-        Ok(value) => match value.as_array() {
-            Some(rows) => Ok(rows.as_slice()),
-            None => Err(place.field(label)),
-        },
-        Err(fault) => Err(fault),
+    match value_at(place, label, row)?.as_array() {
+        Some(rows) => Ok(rows.as_slice()),
+        None => Err(place.field(label)),
     }
 }
 
@@ -89,20 +77,16 @@ pub(crate) fn name_at(place: Place, row: &Table) -> Result<Name, FileFault>
     ensures value { Shows (λ name. name.bytes) (name_at place (table_view row.now)) result }
     ensures name { IfOk result (λ name. is_name name.bytes ≡ true) }
 {
-    match text_at(place, Label::Name, row) {
-        Ok(text) => {
-            if is_name(text.as_bytes()) {
-                let mut name = Name::new();
-                name.push_str(text);
-                Ok(name)
-            } else {
-                Err(FileFault::Name {
-                    section: place.section,
-                    row: place.row,
-                })
-            }
-        }
-        Err(fault) => Err(fault),
+    let text = text_at(place, Label::Name, row)?;
+    if is_name(text.as_bytes()) {
+        let mut name = Name::new();
+        name.push_str(text);
+        Ok(name)
+    } else {
+        Err(FileFault::Name {
+            section: place.section,
+            row: place.row,
+        })
     }
 }
 
@@ -158,10 +142,8 @@ pub(crate) fn number_at(
     ensures value { result ≡ number_at place label least most (table_view row.now) }
     ensures range { IfOk result (λ n. (least ≤ n) × (n ≤ most)) }
 {
-    match value_at(place, label, row) {
-        Ok(value) => number_in(place, label, least, most, value),
-        Err(fault) => Err(fault),
-    }
+    let value = value_at(place, label, row)?;
+    number_in(place, label, least, most, value)
 }
 
 /// The number at a key that may be left out.

@@ -7,6 +7,8 @@ mod items;
 mod places;
 mod rows;
 mod sets;
+#[cfg(test)]
+mod tests;
 mod texts;
 
 pub use faults::{FileFault, Label, Section};

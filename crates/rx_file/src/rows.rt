@@ -49,15 +49,11 @@ fn body_at<'a>(place: Place, row: &'a Table) -> Result<&'a [Value], FileFault>
     ensures value { Shows (λ values. items_view values.now) (body_at place (table_view row.now)) result }
     ensures length { IfOk result (λ values. (1 ≤ length values.now) × (length values.now ≤ 64)) }
 {
-    match array_at(place, Label::Body, row) {
-        Ok(values) => {
-            if 1 <= values.len() && values.len() <= 64 {
-                Ok(values)
-            } else {
-                Err(place.range(Label::Body))
-            }
-        }
-        Err(fault) => Err(fault),
+    let values = array_at(place, Label::Body, row)?;
+    if 1 <= values.len() && values.len() <= 64 {
+        Ok(values)
+    } else {
+        Err(place.range(Label::Body))
     }
 }
 

@@ -1,5 +1,5 @@
 // The set of a task file.
-ghost use Rattle.std.specs.Prelude.{◌≡◌, ◌≤◌, length, IfOk};
+ghost use Rattle.std.specs.Prelude.{◌≤◌, length, IfOk};
 ghost use Rattle.toml.specs.View.{items_view, table_view};
 ghost use Rattle.rx_file.specs.SetOf.{task_rows, set_of_file, file_of, set_of};
 ghost use Rattle.rx_file.specs.Gives.{Shows, Gives, SetGives};
@@ -87,8 +87,6 @@ pub fn read_set(alloc: Global, bytes: &[u8]) -> Result<TaskSet, FileFault>
     requires { length bytes.now ≤ 1048576 }
     ensures { SetGives (set_of bytes.now) result }
 {
-    match read_document(alloc, bytes) {
-        Ok(file) => read_file(alloc, &file),
-        Err(fault) => Err(fault),
-    }
+    let file = read_document(alloc, bytes)?;
+    read_file(alloc, &file)
 }

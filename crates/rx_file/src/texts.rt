@@ -1,5 +1,5 @@
 // Words and numbers as text.
-ghost use Rattle.std.specs.Prelude.{◌≡◌, ◌≢◌, ◌≤◌, ◌<◌, ◌^◌, [], ◌∷◌, length, true, drop, MatchOption};
+ghost use Rattle.std.specs.Prelude.{◌≡◌, ◌≢◌, ◌≤◌, ◌<◌, [], ◌∷◌, length, true, drop, MatchOption};
 ghost use Rattle.std.specs.List.{list_all, position_or_len};
 ghost use Rattle.rx_set.specs.Names.{is_digit};
 ghost use Rattle.rx_file.specs.Texts.{is_number, number_of, value_of, word_number, within, is_space, words_of};

@@ -32,9 +32,11 @@ keeps system task k m (Some best) h = by_test (is_below (key system (job task k)
   where
     later : is_below (key system (job task m)) (key system (job task k)) ≡ false
     later = below_swap (key system (job task k)) (key system (job task m)) (key_order system task k m h)
+
     stays : (b : Bool) → is_below (key system (job task m)) (key system best) ≡ b → is_below (key system (job task k)) (key system best) ≡ false → b ≡ false
     stays false e f = refl
     stays true e f = absurd (false≢true (sym f ∙ below_trans (key system (job task k)) (key system (job task m)) (key system best) (key_order system task k m h) e))
+
     by_test : (b : Bool) → is_below (key system (job task k)) (key system best) ≡ b
         → sooner system (sooner system (Some best) (job task k)) (job task m) ≡ sooner system (Some best) (job task k)
     by_test true e =
@@ -53,13 +55,13 @@ offered system best task m s = if nat_lt s.finished m && nat_lt s.finished s.rel
 module _ (system : System) (past : List Slot) (now task : ℕ) (s : State) (kept : IsState system past (now + 1) task s) (length_is : length past ≡ now) where
   released_is : (k : ℕ) → 1 ≤ k → nat_le (release system (job task k)) (length past) ≡ nat_le k s.released
   released_is k low = elim (dec_le k s.released) [
-      yes below ↦
-          le-leb (release system (job task k)) (length past) (omega (arith, kept.last (omega arith), release_order system task k s.released below))
-          ∙ sym (le-leb k s.released below)
+    | yes below ↦
+        le-leb (release system (job task k)) (length past) (omega (arith, kept.last (omega arith), release_order system task k s.released below))
+        ∙ sym (le-leb k s.released below)
     | no above ↦
-          lt-leb (release system (job task k)) (length past) (omega (arith, kept.next_release, kept.next, release_order system task (s.released + 1) k (omega arith)))
-          ∙ sym (lt-leb k s.released (omega arith))
-    ]
+        lt-leb (release system (job task k)) (length past) (omega (arith, kept.next_release, kept.next, release_order system task (s.released + 1) k (omega arith)))
+        ∙ sym (lt-leb k s.released (omega arith))
+  ]
 
   unfinished_is : (k : ℕ) → 1 ≤ k → not (is_finished system past (job task k)) ≡ nat_lt s.finished k
   unfinished_is k low = ap not (finished_is system past (now + 1) task s kept k low) ∙ grind (arith, nat_tests)
@@ -77,38 +79,38 @@ module _ (system : System) (past : List Slot) (now task : ℕ) (s : State) (kept
   by_order : (best : Option Job) (m : ℕ)
       → (if nat_le (suc m) s.released && nat_lt s.finished (suc m) then sooner system (offered system best task m s) (job task (suc m)) else offered system best task m s) ≡ offered system best task (suc m) s
   by_order best m = elim (dec_le (suc m) s.released) [
-      yes released ↦ elim (dec_le m s.finished) [
-        yes first ↦ elim (dec_le s.finished m) [
-          yes this ↦
-              let same : s.finished ≡ m = omega arith in
-              let test : (nat_le (suc m) s.released && nat_lt s.finished (suc m)) ≡ true = grind (arith, nat_tests) in
-              let none : (nat_lt s.finished m && nat_lt s.finished s.released) ≡ false = grind (arith, nat_tests) in
-              let some : (nat_lt s.finished (suc m) && nat_lt s.finished s.released) ≡ true = grind (arith, nat_tests) in
-              ap (λ (b : Bool). if b then sooner system (offered system best task m s) (job task (suc m)) else offered system best task m s) test
-              ∙ ap (λ (b : Bool). sooner system (if b then sooner system best (job task (s.finished + 1)) else best) (job task (suc m))) none
-              ∙ ap (λ (n : ℕ). sooner system best (job task n)) (omega arith)
-              ∙ ap (λ (b : Bool). if b then sooner system best (job task (s.finished + 1)) else best) (sym some)
-        | no later ↦
-              let test : (nat_le (suc m) s.released && nat_lt s.finished (suc m)) ≡ false = grind (arith, nat_tests) in
-              let same : (nat_lt s.finished m && nat_lt s.finished s.released) ≡ (nat_lt s.finished (suc m) && nat_lt s.finished s.released) = grind (arith, nat_tests) in
-              ap (λ (b : Bool). if b then sooner system (offered system best task m s) (job task (suc m)) else offered system best task m s) test
-              ∙ ap (λ (b : Bool). if b then sooner system best (job task (s.finished + 1)) else best) same
-        ]
-      | no before ↦
+    | yes released ↦ elim (dec_le m s.finished) [
+      | yes first ↦ elim (dec_le s.finished m) [
+        | yes this ↦
+            let same : s.finished ≡ m = omega arith in
             let test : (nat_le (suc m) s.released && nat_lt s.finished (suc m)) ≡ true = grind (arith, nat_tests) in
-            let had : (nat_lt s.finished m && nat_lt s.finished s.released) ≡ true = grind (arith, nat_tests) in
+            let none : (nat_lt s.finished m && nat_lt s.finished s.released) ≡ false = grind (arith, nat_tests) in
             let some : (nat_lt s.finished (suc m) && nat_lt s.finished s.released) ≡ true = grind (arith, nat_tests) in
             ap (λ (b : Bool). if b then sooner system (offered system best task m s) (job task (suc m)) else offered system best task m s) test
-            ∙ ap (λ (b : Bool). sooner system (if b then sooner system best (job task (s.finished + 1)) else best) (job task (suc m))) had
-            ∙ keeps system task (s.finished + 1) (suc m) best (omega arith)
+            ∙ ap (λ (b : Bool). sooner system (if b then sooner system best (job task (s.finished + 1)) else best) (job task (suc m))) none
+            ∙ ap (λ (n : ℕ). sooner system best (job task n)) (omega arith)
             ∙ ap (λ (b : Bool). if b then sooner system best (job task (s.finished + 1)) else best) (sym some)
+        | no later ↦
+            let test : (nat_le (suc m) s.released && nat_lt s.finished (suc m)) ≡ false = grind (arith, nat_tests) in
+            let same : (nat_lt s.finished m && nat_lt s.finished s.released) ≡ (nat_lt s.finished (suc m) && nat_lt s.finished s.released) = grind (arith, nat_tests) in
+            ap (λ (b : Bool). if b then sooner system (offered system best task m s) (job task (suc m)) else offered system best task m s) test
+            ∙ ap (λ (b : Bool). if b then sooner system best (job task (s.finished + 1)) else best) same
       ]
-    | no unreleased ↦
-          let test : (nat_le (suc m) s.released && nat_lt s.finished (suc m)) ≡ false = grind (arith, nat_tests) in
-          let same : (nat_lt s.finished m && nat_lt s.finished s.released) ≡ (nat_lt s.finished (suc m) && nat_lt s.finished s.released) = grind (arith, nat_tests) in
+      | no before ↦
+          let test : (nat_le (suc m) s.released && nat_lt s.finished (suc m)) ≡ true = grind (arith, nat_tests) in
+          let had : (nat_lt s.finished m && nat_lt s.finished s.released) ≡ true = grind (arith, nat_tests) in
+          let some : (nat_lt s.finished (suc m) && nat_lt s.finished s.released) ≡ true = grind (arith, nat_tests) in
           ap (λ (b : Bool). if b then sooner system (offered system best task m s) (job task (suc m)) else offered system best task m s) test
-          ∙ ap (λ (b : Bool). if b then sooner system best (job task (s.finished + 1)) else best) same
+          ∙ ap (λ (b : Bool). sooner system (if b then sooner system best (job task (s.finished + 1)) else best) (job task (suc m))) had
+          ∙ keeps system task (s.finished + 1) (suc m) best (omega arith)
+          ∙ ap (λ (b : Bool). if b then sooner system best (job task (s.finished + 1)) else best) (sym some)
     ]
+    | no unreleased ↦
+        let test : (nat_le (suc m) s.released && nat_lt s.finished (suc m)) ≡ false = grind (arith, nat_tests) in
+        let same : (nat_lt s.finished m && nat_lt s.finished s.released) ≡ (nat_lt s.finished (suc m) && nat_lt s.finished s.released) = grind (arith, nat_tests) in
+        ap (λ (b : Bool). if b then sooner system (offered system best task m s) (job task (suc m)) else offered system best task m s) test
+        ∙ ap (λ (b : Bool). if b then sooner system best (job task (s.finished + 1)) else best) same
+  ]
 
   offers : (best : Option Job) (m : ℕ) → fold (sooner system) best (filter (is_pending system past) (jobs_of task m)) ≡ offered system best task m s
   offers best zero =
@@ -134,7 +136,7 @@ chosen_of system past now states kept length_is zero h = refl
 chosen_of system past now states kept length_is (suc tasks) h =
     let before = flat_map (λ (t : ℕ). jobs_of t (now + 1)) (numbers tasks) in
     ap (λ (js : List Job). fold (sooner system) None (filter (is_pending system past) js))
-        (flat_map-append (λ (t : ℕ). jobs_of t (now + 1)) (numbers tasks) (tasks ∷ []) ∙ ap (λ (js : List Job). before ++ js) (append-nil (jobs_of tasks (now + 1))))
+    (flat_map-append (λ (t : ℕ). jobs_of t (now + 1)) (numbers tasks) (tasks ∷ []) ∙ ap (λ (js : List Job). before ++ js) (append-nil (jobs_of tasks (now + 1))))
     ∙ ap (fold (sooner system) None) (filter-append (is_pending system past) before (jobs_of tasks (now + 1)))
     ∙ fold-append (sooner system) None (filter (is_pending system past) before) (filter (is_pending system past) (jobs_of tasks (now + 1)))
     ∙ ap (λ (b : Option Job). fold (sooner system) b (filter (is_pending system past) (jobs_of tasks (now + 1)))) (chosen_of system past now states kept length_is tasks (omega arith))

@@ -2,3 +2,4 @@ pub mod Lists
 pub mod Told
 pub mod Chosen
 pub mod Moves
+pub mod Firsts

@@ -26,17 +26,17 @@ pub only_of : (test : Job → Bool) (task m k : ℕ) → 1 ≤ k → k ≤ m →
     → ((j : ℕ) → 1 ≤ j → j ≤ m → j ≢ k → test (job task j) ≡ false) → filter test (jobs_of task m) ≡ job task k ∷ []
 only_of test task zero k low high h others = absurd (omega arith)
 only_of test task (suc m) k low high h others = elim (dec_le k m) [
-    yes below ↦
-        filter-append test (jobs_of task m) (job task (suc m) ∷ [])
-        ∙ ap (λ (xs : List Job). xs ++ filter test (job task (suc m) ∷ [])) (only_of test task m k low below h (λ j first last. others j first (omega arith)))
-        ∙ ap (λ (xs : List Job). job task k ∷ [] ++ xs) (kept test (job task (suc m)) [] false (others (suc m) (omega arith) (omega arith) (λ e. absurd (omega arith))))
+  | yes below ↦
+      filter-append test (jobs_of task m) (job task (suc m) ∷ [])
+      ∙ ap (λ (xs : List Job). xs ++ filter test (job task (suc m) ∷ [])) (only_of test task m k low below h (λ j first last. others j first (omega arith)))
+      ∙ ap (λ (xs : List Job). job task k ∷ [] ++ xs) (kept test (job task (suc m)) [] false (others (suc m) (omega arith) (omega arith) (λ e. absurd (omega arith))))
   | no above ↦
-        let same : k ≡ suc m = omega arith in
-        filter-append test (jobs_of task m) (job task (suc m) ∷ [])
-        ∙ ap (λ (xs : List Job). xs ++ filter test (job task (suc m) ∷ [])) (none_of test task m (λ j first last. others j first (omega arith) (λ e. absurd (omega arith))))
-        ∙ kept test (job task (suc m)) [] true (ap (λ (n : ℕ). test (job task n)) (sym same) ∙ h)
-        ∙ ap (λ (n : ℕ). job task n ∷ []) (sym same)
-  ]
+      let same : k ≡ suc m = omega arith in
+      filter-append test (jobs_of task m) (job task (suc m) ∷ [])
+      ∙ ap (λ (xs : List Job). xs ++ filter test (job task (suc m) ∷ [])) (none_of test task m (λ j first last. others j first (omega arith) (λ e. absurd (omega arith))))
+      ∙ kept test (job task (suc m)) [] true (ap (λ (n : ℕ). test (job task n)) (sym same) ∙ h)
+      ∙ ap (λ (n : ℕ). job task n ∷ []) (sym same)
+]
 
 -- what is told of the first tasks' jobs with numbers up to n + 1, and what of one more task's
 abbrev pub told_of : {X : Type 0} → (Job → X) → (Job → Bool) → ℕ → ℕ → List X
@@ -46,6 +46,6 @@ pub told_more : {X : Type 0} (make : Job → X) (test : Job → Bool) (n tasks :
     → told_of make test n (suc tasks) ≡ told_of make test n tasks ++ map make (filter test (jobs_of tasks (n + 1)))
 told_more make test n tasks =
     ap (λ (js : List Job). map make (filter test js))
-        (flat_map-append (λ (t : ℕ). jobs_of t (n + 1)) (numbers tasks) (tasks ∷ []) ∙ ap (λ (js : List Job). flat_map (λ (t : ℕ). jobs_of t (n + 1)) (numbers tasks) ++ js) (append-nil (jobs_of tasks (n + 1))))
+    (flat_map-append (λ (t : ℕ). jobs_of t (n + 1)) (numbers tasks) (tasks ∷ []) ∙ ap (λ (js : List Job). flat_map (λ (t : ℕ). jobs_of t (n + 1)) (numbers tasks) ++ js) (append-nil (jobs_of tasks (n + 1))))
     ∙ ap (map make) (filter-append test (flat_map (λ (t : ℕ). jobs_of t (n + 1)) (numbers tasks)) (jobs_of tasks (n + 1)))
     ∙ map-append make (filter test (flat_map (λ (t : ℕ). jobs_of t (n + 1)) (numbers tasks))) (filter test (jobs_of tasks (n + 1)))

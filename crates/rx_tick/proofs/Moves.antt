@@ -1,5 +1,5 @@
 -- What a slot does to what is kept.
-use Rattle.std.proofs.Common.{ℕ, zero, suc, ◌≡◌, ◌≢◌, ◌≤◌, ◌<◌, ◌+◌, ◌-◌, ◌==◌, ◌&&◌, nat_le, nat_lt, not, Bool, true, false, if◌then◌else◌, List, [], ◌∷◌, ◌++◌, length, get_or, slice_set, Option, Some, None, refl, sym, ◌∙◌, ap, arith, subst, add-one}
+use Rattle.std.proofs.Common.{ℕ, zero, suc, ◌≡◌, ◌≢◌, ◌≤◌, ◌<◌, ◌+◌, ◌-◌, ◌^◌, ◌==◌, ◌&&◌, nat_le, nat_lt, not, Bool, true, false, if◌then◌else◌, List, [], ◌∷◌, ◌++◌, length, get_or, slice_set, Option, Some, None, refl, sym, ◌∙◌, ap, arith, subst, add-one, append_assoc}
 use Rattle.std.specs.List.{slice_get}
 use Rattle.std.specs.Option.{ForSome}
 use Rattle.std.proofs.Math.Decide.{dec_le}
@@ -11,12 +11,15 @@ use Rattle.std.proofs.lemmas.Option.{slice_get-get_or}
 use Rattle.rx_set.specs.declared.items.Item.{Item}
 use Rattle.rx_set.specs.declared.items.Item.TheVariants.{Work, Op}
 use Rattle.rx_set.specs.declared.jobs.Job.{Job}
-use Rattle.rx_set.specs.System.{System, TaskRow, DemandRow, task_at, task_of, item_at, demanded}
+use Rattle.rx_set.specs.System.{System, TaskRow, ObjectRow, DemandRow, task_at, task_of, item_at, demanded, due}
 use Rattle.rx_set.specs.Valid.{IsValid, IsItem, IsJob, IsWorkAt}
 use Rattle.rx_tick.specs.declared.states.State.{State}
-use Rattle.rx_tick.specs.Schedule.{Slot, Idle, Busy, Decide, Progress, start, completed, ticked, after, same, progress, is_finished, ends_work, decides, tick_in, tick_of, slot_of, next_slot, chosen, slots, Asked}
-use Rattle.rx_tick.specs.States.{job, no_state, state_at, progress_of, tick_made, with_progress, IsState, AreStates, AreWatched, IsWatch, IsWorkSystem, IsOffered, offer, best_of}
-use Rattle.rx_tick.proofs.Told.{length-slots}
+use Rattle.rx_tick.specs.Schedule.{Slot, Idle, Busy, Decide, Progress, start, completed, lost, ticked, after, sooner, job_in, same, progress, is_finished, ends_work, decides, tick_in, tick_of, slot_of, next_slot, slot_at, chosen, slots, Asked}
+use Rattle.rx_tick.specs.declared.events.Event.{Event}
+use Rattle.rx_tick.specs.declared.events.Event.TheVariants.{Preempt}
+use Rattle.rx_tick.specs.Events.{last_job, preempted, decision, finish, finished_in, events_of, misses, releases}
+use Rattle.rx_tick.specs.States.{job, no_state, state_at, progress_of, tick_made, with_progress, after_tick, IsState, AreStates, AreWatched, IsWatch, IsWorkSystem, IsOffered, offer, best_of}
+use Rattle.rx_tick.proofs.Told.{length-slots, released_bound}
 use Rattle.rx_tick.proofs.Chosen.{chosen_is, best_offered}
 
 -- a slot of another job leaves the progress
@@ -43,7 +46,7 @@ differ_task a b k m h = grind (arith, nat_tests)
 state_stays : (system : System) (past : List Slot) (time task other k : ℕ) (s : State) → IsState system past time task s → other ≢ task → IsState system (Busy (job other k) ∷ past) time task s
 state_stays system past time task other k s kept h =
     let stays : (m : ℕ) → progress system (job task m) (Busy (job other k) ∷ past) ≡ progress system (job task m) past
-            = λ m. other_job system past (job task m) (job other k) (differ_task other task k m h) in record {
+    = λ m. other_job system past (job task m) (job other k) (differ_task other task k m h) in record {
       finished = λ m low high. ap (λ (p : Progress). nat_le (length (task_at system task).items) p.complete) (stays m) ∙ kept.finished m low high;
       started = stays (s.finished + 1) ∙ kept.started;
       unfinished = kept.unfinished;
@@ -77,13 +80,13 @@ module _ (system : System) (past : List Slot) (time task : ℕ) (s : State) (kep
       → IsState system (Busy (job task (s.finished + 1)) ∷ past) time task (record s { finished = s.finished + 1; complete = 0; made = 0; first = 0 })
   ends_job p e h some = record {
     finished = λ m low high. elim (dec_le m s.finished) [
-        yes before ↦ ap (λ (q : Progress). nat_le (length (task_at system task).items) q.complete) (private_stays m (λ f. absurd (omega arith))) ∙ kept.finished m low before
+      | yes before ↦ ap (λ (q : Progress). nat_le (length (task_at system task).items) q.complete) (private_stays m (λ f. absurd (omega arith))) ∙ kept.finished m low before
       | no this ↦
-            let here : m ≡ s.finished + 1 = omega arith in
-            ap (λ (n : ℕ). is_finished system (Busy (job task (s.finished + 1)) ∷ past) (job task n)) here
-            ∙ ap (λ (q : Progress). nat_le (length (task_at system task).items) q.complete) e
-            ∙ le-leb (length (task_at system task).items) p.complete (omega arith)
-      ];
+          let here : m ≡ s.finished + 1 = omega arith in
+          ap (λ (n : ℕ). is_finished system (Busy (job task (s.finished + 1)) ∷ past) (job task n)) here
+          ∙ ap (λ (q : Progress). nat_le (length (task_at system task).items) q.complete) e
+          ∙ le-leb (length (task_at system task).items) p.complete (omega arith)
+    ];
     started = private_stays (s.finished + 1 + 1) (λ f. absurd (omega arith)) ∙ kept.later (s.finished + 1 + 1) (omega arith);
     unfinished = omega (arith, kept.unfinished);
     later = λ m above. private_stays m (λ f. absurd (omega arith)) ∙ kept.later m (omega arith);
@@ -100,6 +103,382 @@ module _ (system : System) (past : List Slot) (time task : ℕ) (s : State) (kep
     where
       by_test : (b : Bool) → (p.complete == length (task_at system task).items) ≡ b
           → IsState system (Busy (job task (s.finished + 1)) ∷ past) time task
-              (if b then record s { finished = s.finished + 1; complete = 0; made = 0; first = 0 } else record s { complete = p.complete; made = p.made; first = p.first })
+          (if b then record s { finished = s.finished + 1; complete = 0; made = 0; first = 0 } else record s { complete = p.complete; made = p.made; first = p.first })
       by_test true f = ends_job p e (grind (arith, nat_tests)) some
       by_test false f = goes_on p e (let apart : p.complete ≢ length (task_at system task).items = grind (arith, nat_tests) in omega arith)
+
+-- a job has had at most as many ticks as there were slots
+made_after : (system : System) (mine : Job) (n : ℕ) (slot : Slot) (p : Progress) → (after system mine n slot p).made ≤ p.made + 1
+made_after system mine n Idle p = omega arith
+made_after system mine n (Busy other) p = by_test (same other mine) (ends_work (item_at system mine p.complete) p.made)
+  where
+    by_test : (b e : Bool) → (if b then (if e then completed p else ticked n p) else p).made ≤ p.made + 1
+    by_test true true = omega arith
+    by_test true false = omega arith
+    by_test false e = omega arith
+made_after system mine n (Decide other object None) p = by_test (same other mine)
+  where
+    by_test : (b : Bool) → (if b then lost p else p).made ≤ p.made + 1
+    by_test true = omega arith
+    by_test false = omega arith
+made_after system mine n (Decide other object (Some entry)) p = by_test (same other mine)
+  where
+    by_test : (b : Bool) → (if b then completed p else p).made ≤ p.made + 1
+    by_test true = omega arith
+    by_test false = omega arith
+
+pub made_bound : (system : System) (mine : Job) (past : List Slot) → (progress system mine past).made ≤ length past
+made_bound system mine [] = omega arith
+made_bound system mine (slot ∷ past) = omega (arith, made_after system mine (length past) slot (progress system mine past), made_bound system mine past)
+
+-- a write of a state with the same counts leaves the choice
+offer_same : (system : System) (best : Option Job) (task : ℕ) (s t : State) → t.released ≡ s.released → t.finished ≡ s.finished → offer system best task t ≡ offer system best task s
+offer_same system best task s t released finished =
+    ap (λ (n : ℕ). if nat_lt n t.released then sooner system best (job task (n + 1)) else best) finished
+    ∙ ap (λ (n : ℕ). if nat_lt s.finished n then sooner system best (job task (s.finished + 1)) else best) released
+
+pub best_set : (system : System) (states : List State) (task : ℕ) (new : State) → task < length states → new.released ≡ (state_at states task).released → new.finished ≡ (state_at states task).finished
+    → (tasks : ℕ) → best_of system tasks (slice_set states task new) ≡ best_of system tasks states
+best_set system states task new known released finished zero = refl
+best_set system states task new known released finished (suc tasks) =
+    ap (λ (best : Option Job). offer system best tasks (state_at (slice_set states task new) tasks)) (best_set system states task new known released finished tasks)
+    ∙ elim (dec_le tasks task) [
+      | yes below ↦ elim (dec_le task tasks) [
+        | yes above ↦
+            let here : tasks ≡ task = omega arith in
+            ap (offer system (best_of system tasks states) tasks) (get_or-set_at states task tasks new no_state here known)
+            ∙ offer_same system (best_of system tasks states) tasks (state_at states tasks) new
+            (released ∙ ap (λ (t : ℕ). (state_at states t).released) (sym here)) (finished ∙ ap (λ (t : ℕ). (state_at states t).finished) (sym here))
+        | no before ↦ ap (offer system (best_of system tasks states) tasks) (get_or-set_other states task tasks new no_state (λ e. absurd (omega arith)))
+      ]
+      | no after ↦ ap (offer system (best_of system tasks states) tasks) (get_or-set_other states task tasks new no_state (λ e. absurd (omega arith)))
+    ]
+
+-- and leaves the watch where it is, if no more jobs are unfinished
+pub watch_set : (system : System) (time watch : ℕ) (states : List State) (task : ℕ) (new : State) → task < length states → new.released ≡ (state_at states task).released → new.next ≡ (state_at states task).next
+    → (state_at states task).finished ≤ new.finished → AreWatched system time watch states → AreWatched system time watch (slice_set states task new)
+watch_set system time watch states task new known released next finished watched = record {
+  each = λ other inside. elim (dec_le other task) [
+    | yes below ↦ elim (dec_le task other) [
+      | yes above ↦
+          let here : other ≡ task = omega arith in
+          subst (IsWatch system time watch other) (sym (get_or-set_at states task other new no_state here known)) (same_watch other here inside)
+      | no before ↦ subst (IsWatch system time watch other) (sym (get_or-set_other states task other new no_state (λ e. absurd (omega arith)))) (watched.each other inside)
+    ]
+    | no after ↦ subst (IsWatch system time watch other) (sym (get_or-set_other states task other new no_state (λ e. absurd (omega arith)))) (watched.each other inside)
+  ];
+}
+  where
+    same_watch : (other : ℕ) → other ≡ task → other < length system.tasks → IsWatch system time watch other new
+    same_watch other here inside =
+        let old = watched.each other inside in
+        let released_here : new.released ≡ (state_at states other).released = released ∙ ap (λ (t : ℕ). (state_at states t).released) (sym here) in
+        let next_here : new.next ≡ (state_at states other).next = next ∙ ap (λ (t : ℕ). (state_at states t).next) (sym here) in
+        let finished_here : (state_at states other).finished ≤ new.finished = subst (λ (t : ℕ). (state_at states t).finished ≤ new.finished) (sym here) finished in record {
+          next = omega (arith, old.next);
+          due = λ some later. subst (λ (n : ℕ). watch ≤ due system (job other n)) (sym released_here)
+              (old.due (omega arith) (subst (λ (n : ℕ). time ≤ due system (job other n)) released_here later));
+        }
+
+-- what a tick does to the counts
+released_after : (items : ℕ) (s : State) (p : Progress) → (with_progress items s p).released ≡ s.released
+released_after items s p = by_test (p.complete == items)
+  where
+    by_test : (b : Bool) → (if b then record s { finished = s.finished + 1; complete = 0; made = 0; first = 0 } else record s { complete = p.complete; made = p.made; first = p.first }).released ≡ s.released
+    by_test true = refl
+    by_test false = refl
+
+next_after : (items : ℕ) (s : State) (p : Progress) → (with_progress items s p).next ≡ s.next
+next_after items s p = by_test (p.complete == items)
+  where
+    by_test : (b : Bool) → (if b then record s { finished = s.finished + 1; complete = 0; made = 0; first = 0 } else record s { complete = p.complete; made = p.made; first = p.first }).next ≡ s.next
+    by_test true = refl
+    by_test false = refl
+
+finished_after : (items : ℕ) (s : State) (p : Progress) → (with_progress items s p).finished ≡ (if p.complete == items then s.finished + 1 else s.finished)
+finished_after items s p = by_test (p.complete == items)
+  where
+    by_test : (b : Bool) → (if b then record s { finished = s.finished + 1; complete = 0; made = 0; first = 0 } else record s { complete = p.complete; made = p.made; first = p.first }).finished
+        ≡ (if b then s.finished + 1 else s.finished)
+    by_test true = refl
+    by_test false = refl
+
+complete_after : (ends : Bool) (now : ℕ) (s : State) → (tick_made ends now s).complete ≤ s.complete + 1
+complete_after true now s = omega arith
+complete_after false now s = omega arith
+
+-- an item of a system of work is work, and no job demands another number of ticks
+module _ (system : System) (of : IsWorkSystem system) where
+  short_item : (item : Item) → IsItem system item → (stated : ℕ) × (item ≡ Work stated)
+  short_item (Work stated) valid = (stated, refl)
+  short_item (Op object call) valid = absurd (omega (arith, valid.0, ap (λ (rows : List ObjectRow). length rows) of.no_objects))
+
+  pub work_at : (mine : Job) (place : ℕ) → mine.task < length system.tasks → place < length (task_of system mine).items → IsWorkAt system mine place
+  work_at mine place known inside =
+      let there = slice_get-get_or (task_of system mine).items place (Work 0) inside in
+      let short = short_item (get_or (task_of system mine).items place (Work 0)) ((of.valid.tasks mine.task known).items place _ there) in
+      (short.0, there ∙ ap (λ (item : Item). Some item) short.1)
+
+  item_is : (mine : Job) (place : ℕ) → mine.task < length system.tasks → place < length (task_of system mine).items → (stated : ℕ) × (item_at system mine place ≡ Some (Work stated))
+  item_is mine place known inside =
+      let work = work_at mine place known inside in
+      (work.0, ap (λ (rows : List DemandRow). demanded rows mine (place + 1) (slice_get (task_of system mine).items place)) of.no_demands ∙ ap (demanded [] mine (place + 1)) work.1)
+
+  -- a slot of such a system is idle, or a tick of work of the job that is chosen
+  pub busy_slot : (past : List Slot) (mine : Job) (p : Progress) → mine.task < length system.tasks → progress system mine past ≡ p → p.complete < length (task_of system mine).items
+      → chosen system past ≡ Some mine → next_slot system past ≡ Busy mine
+  busy_slot past mine p known e inside h =
+      let work = item_is mine p.complete known inside in
+      ap (slot_of system past) h
+      ∙ ap (tick_of system past mine) e
+      ∙ ap (λ (item : Option Item). tick_in system past mine p (decides system item p.made)) work.1
+
+pub idle_slot : (system : System) (past : List Slot) → chosen system past ≡ None → next_slot system past ≡ Idle
+idle_slot system past h = ap (slot_of system past) h
+
+-- an idle slot leaves what is kept
+pub idle_states : (system : System) (past : List Slot) (time : ℕ) (states : List State) → AreStates system past time states → AreStates system (Idle ∷ past) time states
+idle_states system past time states kept = record {
+  of = kept.of;
+  count = kept.count;
+  each = λ task known. let s = kept.each task known in record {
+    finished = s.finished;
+    started = s.started;
+    unfinished = s.unfinished;
+    later = s.later;
+    next_release = s.next_release;
+    next = s.next;
+    last = s.last;
+    order = s.order;
+  };
+}
+
+-- the job that has the slot, its task's state, and what they become
+module _ (system : System) (now : ℕ) (states : List State) (kept : AreStates system (slots system now) (now + 1) states) (mine : Job) (best : best_of system (length system.tasks) states ≡ Some mine) where
+  pub offered_here : IsOffered states mine
+  offered_here = best_offered system states (length system.tasks) (omega (arith, kept.count)) mine best
+
+  known_here : mine.task < length system.tasks
+  known_here = omega (arith, offered_here.task, kept.count)
+
+  pub state_here : IsState system (slots system now) (now + 1) mine.task (state_at states mine.task)
+  state_here = kept.each mine.task known_here
+
+  mine_is : mine ≡ job mine.task ((state_at states mine.task).finished + 1)
+  mine_is = ap (job mine.task) offered_here.number
+
+  started_here : progress system mine (slots system now) ≡ progress_of (state_at states mine.task)
+  started_here = ap (λ (j : Job). progress system j (slots system now)) mine_is ∙ state_here.started
+
+  pub slot_here : next_slot system (slots system now) ≡ Busy mine
+  slot_here = busy_slot system kept.of (slots system now) mine (progress_of (state_at states mine.task)) known_here started_here state_here.unfinished (chosen_is system now states kept ∙ best)
+
+  pub slots_here : slots system (now + 1) ≡ Busy mine ∷ slots system now
+  slots_here = rw (add-one now) (ap (λ (slot : Slot). slot ∷ slots system now) slot_here)
+
+  progress_here : Progress
+  progress_here = tick_made (ends_work (item_at system mine (state_at states mine.task).complete) (state_at states mine.task).made) now (state_at states mine.task)
+
+  items_here : ℕ
+  items_here = length (task_of system mine).items
+
+  after_here : State
+  after_here = after_tick system now mine (state_at states mine.task)
+
+  progress_next : progress system mine (Busy mine ∷ slots system now) ≡ progress_here
+  unfolding progress_here
+  progress_next =
+      ap (λ (j : Job). progress system j (Busy j ∷ slots system now)) mine_is
+      ∙ own_job system (slots system now) mine.task ((state_at states mine.task).finished + 1) (progress_of (state_at states mine.task))
+      (ends_work (item_at system mine (state_at states mine.task).complete) (state_at states mine.task).made) state_here.started
+      (ap (λ (j : Job). ends_work (item_at system j (state_at states mine.task).complete) (state_at states mine.task).made) mine_is)
+      ∙ ap (λ (n : ℕ). tick_made (ends_work (item_at system mine (state_at states mine.task).complete) (state_at states mine.task).made) n (state_at states mine.task)) (length-slots system now)
+
+  -- the job that has the slot is finished by it where the count of finished jobs grows
+  finished_is_here : is_finished system (Busy mine ∷ slots system now) mine ≡ nat_le items_here progress_here.complete
+  unfolding items_here
+  finished_is_here = ap (λ (p : Progress). nat_le (length (task_of system mine).items) p.complete) progress_next
+
+  few_here : progress_here.complete ≤ items_here
+  unfolding progress_here items_here
+  few_here = omega (arith, complete_after (ends_work (item_at system mine (state_at states mine.task).complete) (state_at states mine.task).made) now (state_at states mine.task), state_here.unfinished)
+
+  counts_here : after_here.finished ≡ (if progress_here.complete == items_here then (state_at states mine.task).finished + 1 else (state_at states mine.task).finished)
+  unfolding progress_here items_here after_here
+  counts_here = finished_after (length (task_of system mine).items) (state_at states mine.task)
+      (tick_made (ends_work (item_at system mine (state_at states mine.task).complete) (state_at states mine.task).made) now (state_at states mine.task))
+
+  next_slots : Slot → List Slot
+  next_slots slot = slot ∷ slots system now
+
+  pub not_done : (after_tick system now mine (state_at states mine.task)).finished ≡ (state_at states mine.task).finished → is_finished system (slot_at system now ∷ slots system now) mine ≡ false
+  unfolding after_here
+  not_done e =
+      ap (λ (slot : Slot). is_finished system (slot ∷ slots system now) mine) slot_here ∙ finished_is_here ∙ by_count (progress_here.complete == items_here) refl
+    where
+      by_count : (b : Bool) → (progress_here.complete == items_here) ≡ b → nat_le items_here progress_here.complete ≡ false
+      by_count true f = absurd (omega (arith, counts_here ∙ ap (λ (t : Bool). if t then (state_at states mine.task).finished + 1 else (state_at states mine.task).finished) f, e))
+      by_count false f = let apart : progress_here.complete ≢ items_here = grind (arith, nat_tests) in lt-leb items_here progress_here.complete (omega (arith, few_here))
+
+  pub done : (after_tick system now mine (state_at states mine.task)).finished ≢ (state_at states mine.task).finished → is_finished system (slot_at system now ∷ slots system now) mine ≡ true
+  unfolding after_here
+  done e =
+      ap (λ (slot : Slot). is_finished system (slot ∷ slots system now) mine) slot_here ∙ finished_is_here ∙ by_count (progress_here.complete == items_here) refl
+    where
+      by_count : (b : Bool) → (progress_here.complete == items_here) ≡ b → nat_le items_here progress_here.complete ≡ true
+      by_count true f = let same_count : progress_here.complete ≡ items_here = grind (arith, nat_tests) in le-leb items_here progress_here.complete (omega arith)
+      by_count false f = absurd (e (counts_here ∙ ap (λ (t : Bool). if t then (state_at states mine.task).finished + 1 else (state_at states mine.task).finished) f))
+
+  -- what is kept after the slot
+  state_next : IsState system (Busy mine ∷ slots system now) (now + 1) mine.task after_here
+  unfolding after_here progress_here items_here
+  state_next =
+      let here = ap (λ (j : Job). Busy j ∷ slots system now) mine_is in
+      let e : progress system (job mine.task ((state_at states mine.task).finished + 1)) (Busy (job mine.task ((state_at states mine.task).finished + 1)) ∷ slots system now) ≡ progress_here
+      = ap (λ (j : Job). progress system j (Busy j ∷ slots system now)) (sym mine_is) ∙ progress_next in
+      subst (λ (past : List Slot). IsState system past (now + 1) mine.task after_here) (sym here)
+      (moved system (slots system now) (now + 1) mine.task (state_at states mine.task) state_here progress_here e few_here offered_here.released)
+
+  states_next : AreStates system (Busy mine ∷ slots system now) (now + 1) (slice_set states mine.task after_here)
+  states_next = record {
+    of = kept.of;
+    count = length-set states mine.task after_here ∙ kept.count;
+    each = λ task known. elim (dec_le task mine.task) [
+      | yes below ↦ elim (dec_le mine.task task) [
+        | yes above ↦
+            let here : task ≡ mine.task = omega arith in
+            subst (IsState system (Busy mine ∷ slots system now) (now + 1) task) (sym (get_or-set_at states mine.task task after_here no_state here offered_here.task))
+            (subst (λ (t : ℕ). IsState system (Busy mine ∷ slots system now) (now + 1) t after_here) (sym here) state_next)
+        | no before ↦ other_state task known (λ e. absurd (omega arith))
+      ]
+      | no after ↦ other_state task known (λ e. absurd (omega arith))
+    ];
+  }
+    where
+      other_state : (task : ℕ) → task < length system.tasks → mine.task ≢ task → IsState system (Busy mine ∷ slots system now) (now + 1) task (state_at (slice_set states mine.task after_here) task)
+      other_state task known apart =
+          subst (IsState system (Busy mine ∷ slots system now) (now + 1) task) (sym (get_or-set_other states mine.task task after_here no_state (λ e. apart (sym e))))
+          (state_stays system (slots system now) (now + 1) task mine.task mine.number (state_at states task) (kept.each task known) apart)
+
+  pub states_after : AreStates system (slots system (now + 1)) (now + 1) (slice_set states mine.task (after_tick system now mine (state_at states mine.task)))
+  unfolding after_here
+  states_after = subst (λ (past : List Slot). AreStates system past (now + 1) (slice_set states mine.task after_here)) (sym slots_here) states_next
+
+  pub best_after : (after_tick system now mine (state_at states mine.task)).finished ≡ (state_at states mine.task).finished
+      → best_of system (length system.tasks) (slice_set states mine.task (after_tick system now mine (state_at states mine.task))) ≡ best_of system (length system.tasks) states
+  best_after e = best_set system states mine.task (after_tick system now mine (state_at states mine.task)) offered_here.task
+      (released_after (length (task_of system mine).items) (state_at states mine.task) (tick_made (ends_work (item_at system mine (state_at states mine.task).complete) (state_at states mine.task).made) now (state_at states mine.task)))
+      e (length system.tasks)
+
+  pub watch_after : (watch : ℕ) → AreWatched system (now + 1) watch states → AreWatched system (now + 1) watch (slice_set states mine.task (after_tick system now mine (state_at states mine.task)))
+  unfolding after_here
+  watch_after watch watched = watch_set system (now + 1) watch states mine.task (after_tick system now mine (state_at states mine.task)) offered_here.task
+      (released_after (length (task_of system mine).items) (state_at states mine.task) (tick_made (ends_work (item_at system mine (state_at states mine.task).complete) (state_at states mine.task).made) now (state_at states mine.task)))
+      (next_after (length (task_of system mine).items) (state_at states mine.task) (tick_made (ends_work (item_at system mine (state_at states mine.task).complete) (state_at states mine.task).made) now (state_at states mine.task)))
+      more
+      watched
+    where
+      more : (state_at states mine.task).finished ≤ (after_tick system now mine (state_at states mine.task)).finished
+      more = by_count (progress_here.complete == items_here) refl
+        where
+          by_count : (b : Bool) → (progress_here.complete == items_here) ≡ b → (state_at states mine.task).finished ≤ after_here.finished
+          by_count true f = omega (arith, counts_here ∙ ap (λ (t : Bool). if t then (state_at states mine.task).finished + 1 else (state_at states mine.task).finished) f)
+          by_count false f = omega (arith, counts_here ∙ ap (λ (t : Bool). if t then (state_at states mine.task).finished + 1 else (state_at states mine.task).finished) f)
+
+  pub job_here : now < 2 ^ 40 → IsJob system mine
+  job_here early = record {
+    task = known_here;
+    number = (omega (arith, offered_here.number), omega (arith, offered_here.number, offered_here.released, released_bound system (slots system now) (now + 1) mine.task (state_at states mine.task) state_here kept.of.valid known_here));
+  }
+
+  -- what is told of the slot
+  last_here : last_job (slots system (now + 1)) ≡ Some mine
+  last_here = ap last_job slots_here
+
+  pub last_after : (last : Option Job) → last ≡ Some mine → last ≡ last_job (slots system (now + 1))
+  last_after last e = e ∙ sym last_here
+
+  pub told_here : decision system (slots system now) (slot_at system now) ++ finish system (slots system now) (slot_at system now) ≡ finished_in system (slots system now) (slot_at system now) (Some mine)
+  told_here =
+      ap (λ (slot : Slot). decision system (slots system now) slot ++ finish system (slots system now) (slot_at system now)) slot_here
+      ∙ ap (λ (o : Option Job). finished_in system (slots system now) (slot_at system now) o) (ap job_in slot_here)
+
+-- a known job
+pub known_some : (system : System) (o : Option Job) (mine : Job) → o ≡ Some mine → IsJob system mine → ForSome o (IsJob system)
+known_some system o mine e known = λ x f. let same_job : mine ≡ x = cc in subst (IsJob system) same_job known
+
+pub known_none : (system : System) (o : Option Job) → o ≡ None → ForSome o (IsJob system)
+known_none system o e = λ x f. absurd (none_some x (sym e ∙ f))
+  where
+    none_some : (x : Job) → None ≡ Some x → ⊥
+    none_some x g = cc
+
+-- an idle slot
+module _ (system : System) (now : ℕ) (states : List State) (kept : AreStates system (slots system now) (now + 1) states) (best : best_of system (length system.tasks) states ≡ None) where
+  slot_idle : next_slot system (slots system now) ≡ Idle
+  slot_idle = idle_slot system (slots system now) (chosen_is system now states kept ∙ best)
+
+  slots_idle : slots system (now + 1) ≡ Idle ∷ slots system now
+  slots_idle = rw (add-one now) (ap (λ (slot : Slot). slot ∷ slots system now) slot_idle)
+
+  pub states_idle : AreStates system (slots system (now + 1)) (now + 1) states
+  states_idle = subst (λ (past : List Slot). AreStates system past (now + 1) states) (sym slots_idle) (idle_states system (slots system now) (now + 1) states kept)
+
+  pub last_idle : (last : Option Job) → last ≡ None → last ≡ last_job (slots system (now + 1))
+  last_idle last e = e ∙ sym (ap last_job slots_idle)
+
+  pub told_idle : decision system (slots system now) (slot_at system now) ++ finish system (slots system now) (slot_at system now) ≡ []
+  told_idle =
+      ap (λ (slot : Slot). decision system (slots system now) slot ++ finish system (slots system now) (slot_at system now)) slot_idle
+      ∙ ap (λ (o : Option Job). finished_in system (slots system now) (slot_at system now) o) (ap job_in slot_idle)
+
+-- the preemption that is told
+pub preempted_is : (system : System) (past : List Slot) (now : ℕ) (last best : Option Job) (mine by : Job) → length past ≡ now → last ≡ Some mine → best ≡ Some by
+    → (not (same mine by) && not (is_finished system past mine)) ≡ true → preempted system past last best ≡ Preempt now mine by ∷ []
+preempted_is system past now last best mine by is e f comes =
+    ap (λ (o : Option Job). preempted system past o best) e
+    ∙ ap (preempted system past (Some mine)) f
+    ∙ ap (λ (b : Bool). if b then Preempt (length past) mine by ∷ [] else []) comes
+    ∙ ap (λ (n : ℕ). Preempt n mine by ∷ []) is
+
+pub preempts_is : (system : System) (past : List Slot) (mine by : Job) (below : Bool) → same mine by ≡ false → is_finished system past mine ≡ not below → below ≡ (not (same mine by) && not (is_finished system past mine))
+preempts_is system past mine by below apart finished =
+    twice below
+    ∙ ap (λ (b : Bool). not false && not b) (sym finished)
+    ∙ ap (λ (b : Bool). not b && not (is_finished system past mine)) (sym apart)
+  where
+    twice : (b : Bool) → b ≡ (not false && not (not b))
+    twice true = refl
+    twice false = refl
+
+-- the job of a slot is the chosen one
+tick_job : (system : System) (past : List Slot) (mine : Job) (p : Progress) (asked : Option Asked) → job_in (tick_in system past mine p asked) ≡ Some mine
+tick_job system past mine p None = refl
+tick_job system past mine p (Some asked) = refl
+
+slot_job : (system : System) (past : List Slot) (o : Option Job) → job_in (slot_of system past o) ≡ o
+slot_job system past None = refl
+slot_job system past (Some mine) = tick_job system past mine (progress system mine past) (decides system (item_at system mine (progress system mine past).complete) (progress system mine past).made)
+
+pub job_of_slot : (system : System) (now : ℕ) (states : List State) → AreStates system (slots system now) (now + 1) states → best_of system (length system.tasks) states ≡ job_in (slot_at system now)
+job_of_slot system now states kept = sym (slot_job system (slots system now) (chosen system (slots system now)) ∙ chosen_is system now states kept)
+
+pub last_of_next : (system : System) (now : ℕ) → last_job (slots system (now + 1)) ≡ job_in (slot_at system now)
+last_of_next system now = rw (add-one now) refl
+
+-- all that is told of a slot
+pub all_told : (system : System) (now : ℕ) (last best : Option Job) (first second third fourth : List Event) → first ≡ [] → last ≡ last_job (slots system now) → best ≡ job_in (slot_at system now)
+    → second ≡ first ++ misses system (slots system now) ++ releases system now
+    → third ≡ second ++ preempted system (slots system now) last best
+    → fourth ≡ third ++ (decision system (slots system now) (slot_at system now) ++ finish system (slots system now) (slot_at system now))
+    → fourth ≡ events_of system (slots system now) (slot_at system now)
+all_told system now last best first second third fourth none l b e f g =
+    let past = slots system now in
+    let d = decision system past (slot_at system now) in
+    let x = finish system past (slot_at system now) in
+    g
+    ∙ sym (append_assoc third d x)
+    ∙ ap (λ (es : List Event). es ++ d ++ x) (f
+    ∙ ap (λ (es : List Event). es ++ preempted system past last best) (e ∙ ap (λ (es : List Event). es ++ misses system past ++ releases system now) none ∙ ap (λ (n : ℕ). misses system past ++ releases system n) (sym (length-slots system now)))
+    ∙ ap (λ (o : Option Job). misses system past ++ releases system (length past) ++ preempted system past o best) l
+    ∙ ap (λ (o : Option Job). misses system past ++ releases system (length past) ++ preempted system past (last_job past) o) b)

@@ -39,20 +39,20 @@ module _ (system : System) (past : List Slot) (time task : ℕ) (s : State) (kep
   -- a job is finished if its number is among the first
   pub finished_is : (k : ℕ) → 1 ≤ k → is_finished system past (job task k) ≡ nat_le k s.finished
   finished_is k low = elim (dec_le k s.finished) [
-      yes h ↦ kept.finished k low h ∙ sym (le-leb k s.finished h)
+    | yes h ↦ kept.finished k low h ∙ sym (le-leb k s.finished h)
     | no h ↦ elim (dec_le k (s.finished + 1)) [
-        yes g ↦
-            let same : k ≡ s.finished + 1 = omega arith in
-            ap (λ (n : ℕ). is_finished system past (job task n)) same
-            ∙ ap (λ (p : Progress). nat_le (length (task_at system task).items) p.complete) kept.started
-            ∙ lt-leb (length (task_at system task).items) s.complete kept.unfinished
-            ∙ sym (lt-leb k s.finished (omega arith))
+      | yes g ↦
+          let same : k ≡ s.finished + 1 = omega arith in
+          ap (λ (n : ℕ). is_finished system past (job task n)) same
+          ∙ ap (λ (p : Progress). nat_le (length (task_at system task).items) p.complete) kept.started
+          ∙ lt-leb (length (task_at system task).items) s.complete kept.unfinished
+          ∙ sym (lt-leb k s.finished (omega arith))
       | no g ↦
-            ap (λ (p : Progress). nat_le (length (task_at system task).items) p.complete) (kept.later k (omega arith))
-            ∙ lt-leb (length (task_at system task).items) 0 (omega (arith, kept.unfinished))
-            ∙ sym (lt-leb k s.finished (omega arith))
-      ]
+          ap (λ (p : Progress). nat_le (length (task_at system task).items) p.complete) (kept.later k (omega arith))
+          ∙ lt-leb (length (task_at system task).items) 0 (omega (arith, kept.unfinished))
+          ∙ sym (lt-leb k s.finished (omega arith))
     ]
+  ]
 
   -- the latest released job is due a deadline after its release, which was a period before the next
   pub due_is : 1 ≤ s.released → due system (job task s.released) + (task_at system task).period ≡ s.next + (task_at system task).deadline
@@ -63,21 +63,21 @@ module _ (system : System) (past : List Slot) (time task : ℕ) (s : State) (kep
 
   pub released_bound : IsValid system → task < length system.tasks → s.released ≤ time
   released_bound valid known = elim (dec_le 1 s.released) [
-      yes some ↦
+    | yes some ↦
         let last = kept.last some in
         let bound = number_bound system (job task s.released) (time - 1) valid known (omega arith) in
         omega arith
     | no none ↦ omega arith
-    ]
+  ]
 
   first_release : s.released ≡ 0 → s.next ≡ (task_at system task).offset
   first_release none = kept.next_release ∙ ap (λ (n : ℕ). release system (job task (n + 1))) none ∙ omega arith
 
   pub next_bound : IsValid system → task < length system.tasks → s.next ≤ time + 1000000
   next_bound valid known = elim (dec_le 1 s.released) [
-      yes some ↦ omega (arith, kept.last some, release_next system task s.released some, kept.next_release, (some_period valid known).1)
+    | yes some ↦ omega (arith, kept.last some, release_next system task s.released some, kept.next_release, (some_period valid known).1)
     | no none ↦ omega (arith, first_release (omega arith), (valid.tasks task known).offset)
-    ]
+  ]
 
   -- of the jobs of a task only the latest released one can be due at this time
   not_due_before : IsValid system → task < length system.tasks → (k : ℕ) → 1 ≤ k → k < s.released → due system (job task k) < time
@@ -103,22 +103,22 @@ module _ (system : System) (past : List Slot) (time task : ℕ) (s : State) (kep
       let due_now : due system (job task s.released) ≡ time = omega (arith, due_is (omega arith)) in
       let unfinished : is_finished system past (job task s.released) ≡ false = finished_is s.released (omega arith) ∙ lt-leb s.released s.finished released in
       only_of (is_missed system past) task (time + 1) s.released (omega arith) (omega (arith, released_bound valid known))
-          (missed_by s.released time false due_now unfinished ∙ grind (arith, nat_tests))
-          (λ k low high other. not_missed k now (elim (dec_le k s.released) [
-              yes below ↦ λ e. absurd (omega (arith, not_due_before valid known k low (omega arith)))
-            | no above ↦ λ e. absurd (omega (arith, not_due_after valid known k (omega arith)))
-            ]))
+      (missed_by s.released time false due_now unfinished ∙ grind (arith, nat_tests))
+      (λ k low high other. not_missed k now (elim (dec_le k s.released) [
+        | yes below ↦ λ e. absurd (omega (arith, not_due_before valid known k low (omega arith)))
+        | no above ↦ λ e. absurd (omega (arith, not_due_after valid known k (omega arith)))
+      ]))
 
   pub missed_none : IsValid system → task < length system.tasks → length past ≡ time → is_late_at (task_at system task) time s ≡ false
       → filter (is_missed system past) (jobs_of task (time + 1)) ≡ []
   missed_none valid known now calm =
       none_of (is_missed system past) task (time + 1) (λ k low high. elim (dec_le k s.released) [
-          yes below ↦ elim (dec_le s.released k) [
-            yes at ↦ latest k low (omega arith)
+        | yes below ↦ elim (dec_le s.released k) [
+          | yes at ↦ latest k low (omega arith)
           | no under ↦ not_missed k now (λ e. absurd (omega (arith, not_due_before valid known k low (omega arith))))
-          ]
+        ]
         | no above ↦ not_missed k now (λ e. absurd (omega (arith, not_due_after valid known k (omega arith))))
-        ])
+      ])
     where
       latest : (k : ℕ) → 1 ≤ k → k ≡ s.released → is_missed system past (job task k) ≡ false
       latest k low e =
@@ -143,22 +143,22 @@ module _ (system : System) (past : List Slot) (time task : ℕ) (s : State) (kep
   released_some valid known now =
       let here : release system (job task (s.released + 1)) ≡ time = omega (arith, kept.next_release) in
       only_of (is_released_at system time) task (time + 1) (s.released + 1) (omega arith) (omega (arith, released_bound valid known))
-          (grind (arith, nat_tests))
-          (λ k low high other. elim (dec_le k s.released) [
-              yes below ↦ not_released_before valid known k low below
-            | no above ↦ not_released_after valid known k (omega arith)
-            ])
+      (grind (arith, nat_tests))
+      (λ k low high other. elim (dec_le k s.released) [
+        | yes below ↦ not_released_before valid known k low below
+        | no above ↦ not_released_after valid known k (omega arith)
+      ])
 
   pub released_none : IsValid system → task < length system.tasks → s.next ≢ time
       → filter (is_released_at system time) (jobs_of task (time + 1)) ≡ []
   released_none valid known later =
       none_of (is_released_at system time) task (time + 1) (λ k low high. elim (dec_le k s.released) [
-          yes below ↦ not_released_before valid known k low below
+        | yes below ↦ not_released_before valid known k low below
         | no above ↦ elim (dec_le k (s.released + 1)) [
-            yes at ↦ next_one k (omega arith)
+          | yes at ↦ next_one k (omega arith)
           | no beyond ↦ not_released_after valid known k (omega arith)
-          ]
-        ])
+        ]
+      ])
     where
       next_one : (k : ℕ) → k ≡ s.released + 1 → is_released_at system time (job task k) ≡ false
       next_one k e =
@@ -224,27 +224,27 @@ quiet make test n (suc tasks) h =
 
 not_late : (system : System) (past : List Slot) (time task watch : ℕ) (s : State) → IsState system past time task s → IsWatch system time watch task s → time < watch → is_late_at (task_at system task) time s ≡ false
 not_late system past time task watch s kept watched early = elim (dec_le s.released s.finished) [
-    yes none ↦ grind (arith, nat_tests)
+  | yes none ↦ grind (arith, nat_tests)
   | no some ↦
-        let due_then : due system (job task s.released) + (task_at system task).period ≡ s.next + (task_at system task).deadline = due_is system past time task s kept (omega arith) in
-        let watched_then : time ≤ due system (job task s.released) → watch ≤ due system (job task s.released) = watched.due (omega arith) in
-        let apart : s.next + (task_at system task).deadline ≢ time + (task_at system task).period = λ e. absurd (omega (arith, watched_then (omega arith))) in
-        grind (arith, nat_tests)
-  ]
+      let due_then : due system (job task s.released) + (task_at system task).period ≡ s.next + (task_at system task).deadline = due_is system past time task s kept (omega arith) in
+      let watched_then : time ≤ due system (job task s.released) → watch ≤ due system (job task s.released) = watched.due (omega arith) in
+      let apart : s.next + (task_at system task).deadline ≢ time + (task_at system task).period = λ e. absurd (omega (arith, watched_then (omega arith))) in
+      grind (arith, nat_tests)
+]
 
 module _ (system : System) (now watch : ℕ) (states : List State) (kept : AreStates system (slots system now) now states) (watched : AreWatched system now watch states) (early : now < watch) where
   pub quiet_misses : misses system (slots system now) ≡ []
   quiet_misses =
       sym (misses_all system now (length system.tasks) refl)
       ∙ quiet (Miss now) (is_missed system (slots system now)) now (length system.tasks) (λ task known.
-          missed_none system (slots system now) now task (state_at states task) (kept.each task known) kept.of.valid known (length-slots system now)
-              (not_late system (slots system now) now task watch (state_at states task) (kept.each task known) (watched.each task known) early))
+      missed_none system (slots system now) now task (state_at states task) (kept.each task known) kept.of.valid known (length-slots system now)
+      (not_late system (slots system now) now task watch (state_at states task) (kept.each task known) (watched.each task known) early))
 
   pub quiet_releases : releases system now ≡ []
   quiet_releases =
       quiet (Release now) (is_released_at system now) now (length system.tasks) (λ task known.
-          released_none system (slots system now) now task (state_at states task) (kept.each task known) kept.of.valid known
-              (λ e. absurd (omega (arith, (watched.each task known).next))))
+      released_none system (slots system now) now task (state_at states task) (kept.each task known) kept.of.valid known
+      (λ e. absurd (omega (arith, (watched.each task known).next))))
 
   pub quiet_states : AreStates system (slots system now) (now + 1) states
   quiet_states = record {
@@ -309,11 +309,11 @@ pub between_more : (system : System) (past : List Slot) (time tasks : ℕ) (stat
 between_more system past time tasks states s kept known next = record {
   count = length-set states tasks s ∙ kept.count;
   done = λ task below. elim (dec_le tasks task) [
-      yes at ↦
-          let same : task ≡ tasks = omega arith in
-          subst (IsState system past (time + 1) task) (sym (get_or-set_at states tasks task s no_state same (omega (arith, kept.count))))
-              (subst (λ (t : ℕ). IsState system past (time + 1) t s) (sym same) next)
+    | yes at ↦
+        let same : task ≡ tasks = omega arith in
+        subst (IsState system past (time + 1) task) (sym (get_or-set_at states tasks task s no_state same (omega (arith, kept.count))))
+        (subst (λ (t : ℕ). IsState system past (time + 1) t s) (sym same) next)
     | no before ↦ subst (IsState system past (time + 1) task) (sym (get_or-set_other states tasks task s no_state (λ e. absurd (omega arith)))) (kept.done task (omega arith))
-    ];
+  ];
   rest = λ task above inside. subst (IsState system past time task) (sym (get_or-set_other states tasks task s no_state (λ e. absurd (omega arith)))) (kept.rest task (omega arith) inside);
 }

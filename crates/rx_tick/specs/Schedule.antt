@@ -129,8 +129,8 @@ abbrev pub tick_in : System → List Slot → Job → Progress → Option Asked 
 tick_in system past job p None = Busy job
 tick_in system past job p (Some asked) =
     Decide job asked.object
-        (if won_after asked.object p.first past then None
-         else Some (entry_after (parts_of system) (history past) job.task asked.object asked.call))
+    (if won_after asked.object p.first past then None
+    else Some (entry_after (parts_of system) (history past) job.task asked.object asked.call))
 
 abbrev pub tick_of : System → List Slot → Job → Progress → Slot
 tick_of system past job p = tick_in system past job p (decides system (item_at system job p.complete) p.made)

@@ -2,9 +2,9 @@
 use Rattle.std.specs.Prelude.{ℕ, zero, suc, ◌≡◌, ◌==◌, ◌&&◌, ◌+◌, ◌-◌, ◌<◌, ◌≤◌, ◌^◌, Bool, true, false, if◌then◌else◌, nat_lt, Option, Some, None, List, [], length, get_or, map, filter}
 use Rattle.std.specs.Option.{ForSome}
 use Rattle.rx_set.specs.declared.jobs.Job.{Job}
-use Rattle.rx_set.specs.System.{System, TaskRow, task_at, release, due}
+use Rattle.rx_set.specs.System.{System, TaskRow, task_at, task_of, item_at, release, due}
 use Rattle.rx_set.specs.Valid.{IsJob, IsValid}
-use Rattle.rx_tick.specs.Schedule.{Slot, Progress, sooner, start, progress, is_finished, completed, ticked, slots, jobs_of}
+use Rattle.rx_tick.specs.Schedule.{Slot, Progress, sooner, start, progress, is_finished, completed, ticked, ends_work, slots, jobs_of}
 use Rattle.rx_tick.specs.Events.{last_job, is_missed, is_released_at}
 use Rattle.rx_tick.specs.declared.events.Event.{Event}
 use Rattle.rx_tick.specs.declared.events.Event.TheVariants.{Miss, Release}
@@ -71,6 +71,11 @@ with_progress items s p =
     if p.complete == items then record s { finished = s.finished + 1; complete = 0; made = 0; first = 0 }
     else record s { complete = p.complete; made = p.made; first = p.first }
 
+-- the state of a job's task after a tick of this job, which is its started one
+abbrev pub after_tick : System → ℕ → Job → State → State
+after_tick system now mine s =
+    with_progress (length (task_of system mine).items) s (tick_made (ends_work (item_at system mine s.complete) s.made) now s)
+
 -- no job is released before this time from now on, and no job that is unfinished is due before it
 pub record IsWatch (system : System) (time watch task : ℕ) (s : State) : Type 0 where
   pub next : watch ≤ s.next
@@ -102,3 +107,7 @@ pub record AreOffers (system : System) (now : ℕ) (states : List State) : Type 
   pub of : IsWorkSystem system
   pub count : length states ≡ length system.tasks
   pub few : (task : ℕ) → task < length system.tasks → (state_at states task).released ≤ now + 1
+
+-- the state of a task before the first slot
+abbrev pub first_state_of : TaskRow → State
+first_state_of row = record { released = 0; next = row.offset; finished = 0; complete = 0; made = 0; first = 0 }

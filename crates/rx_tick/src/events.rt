@@ -7,11 +7,21 @@ use rx_set::Job;
 #[derive(Clone, Copy, Debug, PartialEq, Eq)]
 pub enum Event {
     /// The job's absolute deadline is now, and its slots so far do not finish it.
-    Miss { at: u64, job: Job },
+    Miss {
+        at: u64,
+        job: Job,
+    },
     /// The job is released.
-    Release { at: u64, job: Job },
+    Release {
+        at: u64,
+        job: Job,
+    },
     /// The job had the slot before, is unfinished after it, and another job has the slot now.
-    Preempt { at: u64, job: Job, by: Job },
+    Preempt {
+        at: u64,
+        job: Job,
+        by: Job,
+    },
     /// An attempt won in this slot, which made the item's call: its first slot, the reply, and the object's new tag.
     Reply {
         at: u64,
@@ -31,7 +41,10 @@ pub enum Event {
         found: u64,
     },
     /// The job's last item is complete.
-    Finish { at: u64, job: Job },
+    Finish {
+        at: u64,
+        job: Job,
+    },
 }
 
 impl Default for Event {

@@ -1,5 +1,7 @@
 // The executive.
-ghost use Rattle.std.specs.Prelude.{◌≡◌, ◌<◌, ◌+◌, ◌^◌, IfOk, None};
+ghost use Rattle.std.specs.Prelude.{◌≡◌, ◌<◌, ◌+◌, ◌^◌, IfOk, None, []};
+ghost use Rattle.rx_tick.specs.States.{AreStates, IsTurn, first_state_of};
+ghost use Rattle.rx_set.specs.View.{row_of};
 ghost use Rattle.rx_tick.specs.Schedule.{slots, slot_at, job_in};
 ghost use Rattle.rx_tick.specs.Events.{events_of, misses};
 
@@ -9,9 +11,42 @@ use crate::states::State;
 use crate::ticks::Tick;
 use crate::turns::Turn;
 use rx_seq::NoMemory;
-use rx_set::TaskSet;
+use rx_set::{Task, TaskSet};
 use std::alloc::Global;
 use std::marker::Model;
+
+/// The state of a task before the first slot.
+fn first_state(task: &Task) -> State
+    ensures { result ≡ first_state_of (row_of task.now) }
+{
+    State {
+        released: 0,
+        next: task.offset,
+        finished: 0,
+        complete: 0,
+        made: 0,
+        first: 0,
+    }
+}
+
+/// The states of all tasks before the first slot.
+fn first_states(alloc: Global, set: &TaskSet) -> Result<Vec<State>, NoMemory>
+    ensures states { IfOk result (λ states. AreStates set.now [] 0 states.items) }
+    ensures turn { IfOk result (λ states. IsTurn set.now 0 states.items (record { watch = 0; best = None; last = None })) }
+{
+    let tasks = set.tasks();
+    let mut states = match Vec::with_capacity(alloc, tasks.len()) {
+        Ok(states) => states,
+        Err(_) => return Err(NoMemory),
+    };
+    for task in tasks {
+        match states.push(first_state(task)) {
+            Ok(()) => {}
+            Err(_) => return Err(NoMemory),
+        }
+    }
+    Ok(states)
+}
 
 /// One simulated processor, and a set of tasks that it runs, slot by slot. It keeps one started job per task, and
 /// counts of released and finished jobs.
@@ -46,7 +81,11 @@ impl<'s> Executive<'s> {
             set,
             time: 0,
             states,
-            turn: Turn::default(),
+            turn: Turn {
+                watch: 0,
+                best: None,
+                last: None,
+            },
         })
     }
 
@@ -69,7 +108,13 @@ impl<'s> Executive<'s> {
     {
         out.at = self.time;
         out.events.clear();
-        make_slot(self.set, &mut self.states, &mut self.turn, self.time, &mut out.events);
+        make_slot(
+            self.set,
+            &mut self.states,
+            &mut self.turn,
+            self.time,
+            &mut out.events,
+        );
         out.slot = self.turn.last;
         self.time += 1;
     }

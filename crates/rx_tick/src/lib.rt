@@ -2,6 +2,7 @@
 #![tactic(auto)]
 
 mod events;
+mod executive;
 mod looks;
 mod slots;
 mod states;
@@ -10,5 +11,6 @@ mod totals;
 mod turns;
 
 pub use events::Event;
+pub use executive::Executive;
 pub use ticks::Tick;
 pub use totals::Totals;

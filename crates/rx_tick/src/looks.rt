@@ -27,13 +27,7 @@ fn is_late(set: &TaskSet, state: State, task: usize, now: u64) -> bool
 }
 
 /// Tells the miss of a task, if it has one at this time: only the latest job that it released can be due.
-fn tell_miss(
-    set: &TaskSet,
-    state: State,
-    task: usize,
-    now: u64,
-    events: &mut ArrayVec<Event, 131>,
-)
+fn tell_miss(set: &TaskSet, state: State, task: usize, now: u64, events: &mut ArrayVec<Event, 131>)
     requires of { IsWorkSystem set.now }
     requires known { task < length set.now.tasks }
     requires now { now ≤ 2 ^ 40 }
@@ -53,12 +47,7 @@ fn tell_miss(
 }
 
 /// Tells the misses at a time.
-pub fn tell_misses(
-    set: &TaskSet,
-    states: &[State],
-    now: u64,
-    events: &mut ArrayVec<Event, 131>,
-)
+pub fn tell_misses(set: &TaskSet, states: &[State], now: u64, events: &mut ArrayVec<Event, 131>)
     requires now { now ≤ 2 ^ 40 }
     requires states { AreStates set.now (slots set.now now) now states.now }
     requires room { array_vec_len events.old ≤ 64 }
@@ -104,12 +93,7 @@ fn count_release(
 }
 
 /// Tells the releases at a time, and counts them.
-fn count_releases(
-    set: &TaskSet,
-    states: &mut [State],
-    now: u64,
-    events: &mut ArrayVec<Event, 131>,
-)
+fn count_releases(set: &TaskSet, states: &mut [State], now: u64, events: &mut ArrayVec<Event, 131>)
     requires now { now < 2 ^ 40 }
     requires states { AreStates set.now (slots set.now now) now states.old }
     requires room { array_vec_len events.old ≤ 96 }
@@ -156,8 +140,7 @@ fn is_below(a: Key, b: Key) -> bool
     ensures { result ≡ key_below a b }
 {
     a.first < b.first
-        || a.first == b.first
-            && (a.second < b.second || a.second == b.second && a.third < b.third)
+        || a.first == b.first && (a.second < b.second || a.second == b.second && a.third < b.third)
 }
 
 /// The sooner of two jobs.

@@ -20,12 +20,12 @@ returns-clause-state c =
     let past = slots c.args.set.now c.args.now in
     let is = row_is c.tasks.result.now c.args.set.now c.args.task c.index-tasks-task.result c.tasks.ensures.rows c.requires.known c.index-tasks-task.is in
     let P : ℕ → Type 0 = λ period. IsState c.args.set.now past (c.args.now + 1) c.args.task
-        (record c.args.state { released = c.args.state.released + 1; next = c.args.state.next + period }) in
+    (record c.args.state { released = c.args.state.released + 1; next = c.args.state.next + period }) in
     subst P (ap (λ (r : TaskRow). r.period) is ∙ ap (λ (t : Task). t.period) c.index-tasks-task.is)
-        (state_released c.args.set.now past c.args.now c.args.task c.args.state c.requires.state c.requires.of.valid c.requires.known c.if-state-now.false)
+    (state_released c.args.set.now past c.args.now c.args.task c.args.state c.requires.state c.requires.of.valid c.requires.known c.if-state-now.false)
 
 pub returns-clause-told : goal.returns-clause-told
 returns-clause-told c =
     let past = slots c.args.set.now c.args.now in
     c.push.ensures.items ∙ ap (λ (js : List Job). c.args.events.now.items ++ map (Release c.args.now) js)
-        (sym (released_some c.args.set.now past c.args.now c.args.task c.args.state c.requires.state c.requires.of.valid c.requires.known c.if-state-now.false))
+    (sym (released_some c.args.set.now past c.args.now c.args.task c.args.state c.requires.state c.requires.of.valid c.requires.known c.if-state-now.false))

@@ -8,4 +8,4 @@ use Rattle.rx_tick.proofs.looks.pick.Goals as goal
 pub offer_of-best-requires-clause-best : goal.offer_of-best-requires-clause-best
 offer_of-best-requires-clause-best c =
     subst (λ (o : Option Job). ForSome o (IsJob c.args.set.now)) (sym c.loop-task.invariant)
-        (best_known c.args.set.now c.args.now c.args.states.now c.loop-task.task c.requires.states c.requires.now (omega arith))
+    (best_known c.args.set.now c.args.now c.args.states.now c.loop-task.task c.requires.states c.requires.now (omega arith))

@@ -13,11 +13,11 @@ pub returns-then-not-is_late-clause-told : goal.returns-then-not-is_late-clause-
 returns-then-not-is_late-clause-told c =
     let past = slots c.args.set.now c.args.now in
     append_none _ _ (ap (map (Miss c.args.now)) (missed_none c.args.set.now past c.args.now c.args.task c.args.state c.requires.state c.requires.of.valid c.requires.known
-        (length-slots c.args.set.now c.args.now) (sym c.is_late.ensures ∙ c.if-not-is_late.true)))
+    (length-slots c.args.set.now c.args.now) (sym c.is_late.ensures ∙ c.if-not-is_late.true)))
 
 pub returns-clause-told : goal.returns-clause-told
 returns-clause-told c =
     let past = slots c.args.set.now c.args.now in
     c.push.ensures.items ∙ ap (λ (js : List Job). c.args.events.now.items ++ map (Miss c.args.now) js)
-        (sym (missed_some c.args.set.now past c.args.now c.args.task c.args.state c.requires.state c.requires.of.valid c.requires.known
-            (length-slots c.args.set.now c.args.now) (sym c.is_late.ensures ∙ c.if-not-is_late.false)))
+    (sym (missed_some c.args.set.now past c.args.now c.args.task c.args.state c.requires.state c.requires.of.valid c.requires.known
+    (length-slots c.args.set.now c.args.now) (sym c.is_late.ensures ∙ c.if-not-is_late.false)))

@@ -1,0 +1,10 @@
+-- What an answer unfolds to compute the set of a file that is written out.
+use Rattle.std.specs.Prelude.{⊤}
+use Rattle.std.specs.Str.{is_utf8, chars}
+use Rattle.toml.proofs.OnLiterals.{toml_on_literals}
+use Rattle.rx_file.specs.Fields.{value_at, text_at, array_at, name_at, is_new, number_in, number_at, number_or, only_keys}
+use Rattle.rx_file.specs.SetOf.{item_of, body_at, task_of_table, task_of_value, up_to, some_rows, task_rows, set_of_file, file_of, set_of}
+
+unfoldable pub file_on_literals : ⊤
+unfolding toml_on_literals is_utf8 chars value_at text_at array_at name_at is_new number_in number_at number_or only_keys item_of body_at task_of_table task_of_value up_to some_rows task_rows set_of_file file_of set_of
+file_on_literals = tt

@@ -1,0 +1,13 @@
+use Rattle.std.proofs.Common.{◌∙◌, ◌++◌, List, ap, sym}
+use Rattle.rx_tick.specs.declared.events.Event.{Event}
+use Rattle.rx_tick.specs.Schedule.{slots}
+use Rattle.rx_tick.proofs.Told.{length-slots}
+use Rattle.rx_tick.proofs.Moves.{preempted_is}
+use Rattle.rx_tick.proofs.slots.tell_preemption.Goals as goal
+
+pub returns-clause-told : goal.returns-clause-told
+returns-clause-told c =
+    c.push.ensures.items
+    ∙ ap (λ (es : List Event). c.args.events.now.items ++ es)
+    (sym (preempted_is c.args.set.now (slots c.args.set.now c.args.now) c.args.now c.args.turn.now.last c.args.turn.now.best c.in-Some.job c.in-Some-best.by
+    (length-slots c.args.set.now c.args.now) c.in-Some.is c.in-Some-best.is (sym c.preempts.ensures ∙ c.if-not-preempts.false)))
