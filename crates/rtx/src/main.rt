@@ -12,11 +12,10 @@ ghost use Rattle.rx_top.specs.declared.status.Status.TheVariants.{WriteFault};
 use rx_io::{InSource, OutSink};
 use rx_top::{Status, top};
 use std::alloc::Global;
-use std::io;
 use std::io::{BufWriter, ErrorKind, Write};
 use std::process::ExitCode;
 use std::rt::Env;
-use std::env;
+use std::{env, io};
 
 // How many bytes of the output are gathered before they are handed to the system.
 const GATHERED: usize = 65_536;

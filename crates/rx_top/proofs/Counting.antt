@@ -73,11 +73,11 @@ pub counts_next : (system : System) (n : ℕ) (t u v : Totals) (job : Option Job
     → u ≡ with_slot t (is_some job) → v ≡ fold counted u told → AreCounts system (n + 1) v
 counts_next system n t u v job told before slot same few one all = record {
   totals_are =
-    all ∙ ap (λ (w : Totals). fold counted w told) (one ∙ ap (λ (w : Totals). with_slot w (is_some job)) before.totals_are
-        ∙ slot_counted (slots system n) (events system n) (slot_at system n) job (sym slot))
-    ∙ fold_counted (slot_at system n ∷ slots system n) (events system n) told
-    ∙ ap (λ more. totals_of (slot_at system n ∷ slots system n) (events system n ++ more)) same
-    ∙ rw (add-one n) refl;
+      all ∙ ap (λ (w : Totals). fold counted w told) (one ∙ ap (λ (w : Totals). with_slot w (is_some job)) before.totals_are
+      ∙ slot_counted (slots system n) (events system n) (slot_at system n) job (sym slot))
+      ∙ fold_counted (slot_at system n ∷ slots system n) (events system n) told
+      ∙ ap (λ more. totals_of (slot_at system n ∷ slots system n) (events system n ++ more)) same
+      ∙ rw (add-one n) refl;
   small = rw (all, one) (below_more _ _ _ (omega arith) (below_fold _ _ told (below_slot _ t (is_some job) before.small)));
 }
 

@@ -116,7 +116,7 @@ headline command before after result told ticks input system asks known few set 
     let reading : reads_input command ≡ true = ap reads_input asks in
     let given = determined command before after result told input known reading (calm_without_faults command before after result told memory reads writes) in
     let same : answer command input ≡ run_answer ticks system =
-        ap (λ c. answer c input) asks ∙ fits (run_answer ticks) input few ∙ ap (file_answer (run_answer ticks)) set in record {
+    ap (λ c. answer c input) asks ∙ fits (run_answer ticks) input few ∙ ap (file_answer (run_answer ticks)) set in record {
       read = given.left ∙ ap (λ (r : List ℕ). Some r) (drop_of_length-le input {i = most_input + 1} (omega (arith, few)));
       written = subst (Appends before.taken after.taken) (ap (λ (a : Answer). a.output) same) given.written;
       status = given.status ∙ ap (λ (a : Answer). a.status) same;

@@ -29,6 +29,9 @@ pub record Ends : Type 0 where
   pub taken : Option (List ℕ)
   pub write_faults : ℕ
 
+abbrev pub ends : Option (List ℕ) → ℕ → Option (List ℕ) → ℕ → Ends
+ends left read_faults taken write_faults = record { left = left; read_faults = read_faults; taken = taken; write_faults = write_faults }
+
 -- a status, and all that is written with it
 pub record Answer : Type 0 where
   pub status : Status

@@ -6,6 +6,8 @@
 
 mod runs;
 mod status;
+#[cfg(test)]
+mod tests;
 mod tops;
 mod words;
 

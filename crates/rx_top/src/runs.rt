@@ -66,7 +66,7 @@ fn write_slot<K: Sink>(
     ensures next { executive.new ≡ record { system = set.now; time = executive.old.time + 1 } }
     ensures puts { Puts (K.taken sink.old) (K.taken sink.new) (K.faults sink.old) (K.faults sink.new)
         result (lines_of set.now
-            (events_of set.now (slots set.now executive.old.time) (slot_at set.now executive.old.time))) }
+        (events_of set.now (slots set.now executive.old.time) (slot_at set.now executive.old.time))) }
     ensures counts { OnOk result (AreCounts set.now (executive.old.time + 1) totals.new) }
 {
     executive.tick(tick);
@@ -151,13 +151,28 @@ pub(crate) fn write_run<K: Sink>(
     let mut tick = Tick::new();
     let mut totals = Totals::new();
     let mut line = Line::new();
-    match write_slots(set, executive, ticks, &mut tick, &mut totals, &mut line, sink) {
+    match write_slots(
+        set,
+        executive,
+        ticks,
+        &mut tick,
+        &mut totals,
+        &mut line,
+        sink,
+    ) {
         Ok(()) => {}
         Err(Failed) => return Err(Failed),
     }
     executive.late(&mut tick);
     no_objects(set);
-    match write_end(set, ticks, tick.events.as_slice(), &mut totals, &mut line, sink) {
+    match write_end(
+        set,
+        ticks,
+        tick.events.as_slice(),
+        &mut totals,
+        &mut line,
+        sink,
+    ) {
         Ok(()) => Ok(totals.missed),
         Err(Failed) => Err(Failed),
     }

@@ -2,7 +2,7 @@
 ghost use Rattle.std.specs.Prelude.{◌≡◌, ◌<◌, ◌≤◌, ◌^◌, map, string_bytes, Some};
 ghost use Rattle.std.specs.Option.{ForSome};
 ghost use Rattle.rx_top.specs.Words.{command_of, IsLimited};
-ghost use Rattle.rx_top.specs.Outcome.{Outcome, Headline, Tells, input_answer, run_answer, set_answer};
+ghost use Rattle.rx_top.specs.Outcome.{Outcome, Headline, Tells, ends, input_answer, run_answer, set_answer};
 ghost use Rattle.rx_top.specs.Determined.{Determined, Unread};
 
 use crate::runs::write_run;
@@ -17,7 +17,27 @@ use std::alloc::Global;
 // The most bytes of an input.
 const MOST_INPUT: usize = 1_048_576;
 
-/// Answers the words: reads the input from the source, and writes the report to the sink.
+/// Does all that the program does: answers the words after its name, reads the input from `source`, and writes what it
+/// tells to `sink`.
+///
+/// `run N` reads a task file, in the form that `rx_file::read_set` says, and writes the report of its schedule: the
+/// events of the slots 0 to N - 1, the misses at time N, and the line of the totals. N is a word of 1 to 20 ASCII
+/// digits, leading zeros allowed, and at most 1,000,000. All other words have no shape.
+///
+/// - `Done` and `Adverse`: the whole report was written, and it tells no miss, or tells one.
+/// - `Words`: exactly where the words have no shape. The line `words` was written, and the source is as it was.
+/// - `ReadFault`: only where the source failed in this call. Nothing was written.
+/// - `BadSet`: exactly where the input is no set of tasks or has more than 1,048,576 bytes, of which 1,048,577 are then
+///   read. The line `set` was written.
+/// - `WriteFault`: only where the sink failed in this call. A front of what was to be written was taken.
+/// - `NoMemory`: may come for any words that have a shape. Nothing was written.
+///
+/// Where the status is another than `ReadFault`, `WriteFault` and `NoMemory`, neither the source nor the sink failed, and
+/// an input that is read is read to its end. Lines are handed to the sink one at a time, and the rest of a line again
+/// where the sink took less. After a failure no further call of either is made, which no clause says but a test shows.
+/// The memory is in proportion to the input, all of it is taken before the first write, and none for words of no shape.
+/// The time is that of reading the file, and for each slot that of `Executive::tick` and of its lines. Wants a count of
+/// faults below 2^63 of the source and of the sink.
 pub fn top<S: Source, K: Sink>(
     alloc: Global,
     words: &[String],
@@ -26,21 +46,27 @@ pub fn top<S: Source, K: Sink>(
 ) -> Status
     requires source { S.faults source.old < 2 ^ 63 }
     requires sink { K.faults sink.old < 2 ^ 63 }
+
+    // Each status has its cause, with all that was read and written.
     ensures outcome { Outcome (command_of (map string_bytes words.now))
-        (record { left = S.left source.old; read_faults = S.faults source.old; taken = K.taken sink.old; write_faults = K.faults sink.old })
-        (record { left = S.left source.new; read_faults = S.faults source.new; taken = K.taken sink.new; write_faults = K.faults sink.new })
+        (ends (S.left source.old) (S.faults source.old) (K.taken sink.old) (K.faults sink.old))
+        (ends (S.left source.new) (S.faults source.new) (K.taken sink.new) (K.faults sink.new))
         result }
+
+    // A command that reads gives the one answer to its input, and words of no shape theirs.
     ensures determined { Determined (command_of (map string_bytes words.now))
-        (record { left = S.left source.old; read_faults = S.faults source.old; taken = K.taken sink.old; write_faults = K.faults sink.old })
-        (record { left = S.left source.new; read_faults = S.faults source.new; taken = K.taken sink.new; write_faults = K.faults sink.new })
+        (ends (S.left source.old) (S.faults source.old) (K.taken sink.old) (K.faults sink.old))
+        (ends (S.left source.new) (S.faults source.new) (K.taken sink.new) (K.faults sink.new))
         result }
     ensures unread { Unread (command_of (map string_bytes words.now))
-        (record { left = S.left source.old; read_faults = S.faults source.old; taken = K.taken sink.old; write_faults = K.faults sink.old })
-        (record { left = S.left source.new; read_faults = S.faults source.new; taken = K.taken sink.new; write_faults = K.faults sink.new })
+        (ends (S.left source.old) (S.faults source.old) (K.taken sink.old) (K.faults sink.old))
+        (ends (S.left source.new) (S.faults source.new) (K.taken sink.new) (K.faults sink.new))
         result }
+
+    // Given memory and no fault, `run` on a set writes the report of its schedule.
     ensures headline { Headline (command_of (map string_bytes words.now))
-        (record { left = S.left source.old; read_faults = S.faults source.old; taken = K.taken sink.old; write_faults = K.faults sink.old })
-        (record { left = S.left source.new; read_faults = S.faults source.new; taken = K.taken sink.new; write_faults = K.faults sink.new })
+        (ends (S.left source.old) (S.faults source.old) (K.taken sink.old) (K.faults sink.old))
+        (ends (S.left source.new) (S.faults source.new) (K.taken sink.new) (K.faults sink.new))
         result }
 {
     answer_words(alloc, command_of(words), source, sink)
@@ -57,8 +83,8 @@ fn answer_words<S: Source, K: Sink>(
     requires sink { K.faults sink.old < 2 ^ 63 }
     requires limits { ForSome command IsLimited }
     ensures { Outcome command
-        (record { left = S.left source.old; read_faults = S.faults source.old; taken = K.taken sink.old; write_faults = K.faults sink.old })
-        (record { left = S.left source.new; read_faults = S.faults source.new; taken = K.taken sink.new; write_faults = K.faults sink.new })
+        (ends (S.left source.old) (S.faults source.old) (K.taken sink.old) (K.faults sink.old))
+        (ends (S.left source.new) (S.faults source.new) (K.taken sink.new) (K.faults sink.new))
         result }
 {
     match command {
@@ -81,8 +107,8 @@ fn answer_command<S: Source, K: Sink>(
     requires sink { K.faults sink.old < 2 ^ 63 }
     requires limits { IsLimited command }
     ensures { Outcome (Some command)
-        (record { left = S.left source.old; read_faults = S.faults source.old; taken = K.taken sink.old; write_faults = K.faults sink.old })
-        (record { left = S.left source.new; read_faults = S.faults source.new; taken = K.taken sink.new; write_faults = K.faults sink.new })
+        (ends (S.left source.old) (S.faults source.old) (K.taken sink.old) (K.faults sink.old))
+        (ends (S.left source.new) (S.faults source.new) (K.taken sink.new) (K.faults sink.new))
         result }
 {
     match command {
@@ -101,8 +127,8 @@ fn run_command<S: Source, K: Sink>(
     requires sink { K.faults sink.old < 2 ^ 63 }
     requires limits { ticks ≤ 1000000 }
     ensures { Outcome (Some (Command.Run ticks))
-        (record { left = S.left source.old; read_faults = S.faults source.old; taken = K.taken sink.old; write_faults = K.faults sink.old })
-        (record { left = S.left source.new; read_faults = S.faults source.new; taken = K.taken sink.new; write_faults = K.faults sink.new })
+        (ends (S.left source.old) (S.faults source.old) (K.taken sink.old) (K.faults sink.old))
+        (ends (S.left source.new) (S.faults source.new) (K.taken sink.new) (K.faults sink.new))
         result }
 {
     match read_all(alloc, source, MOST_INPUT) {

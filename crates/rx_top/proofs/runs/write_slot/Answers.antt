@@ -15,4 +15,4 @@ pub returns-clause-counts : goal.returns-clause-counts
 returns-clause-counts g c =
     let told = c.as_slice.ensures.value ∙ (rw c.requires.system at c.tick.ensures.events) in
     on_ok_weaker _ (counts_next _ _ _ _ _ _ _ c.requires.counts (rw c.requires.system at c.tick.ensures.slot) told
-        (omega (arith, c.as_slice.ensures.fits)) (c.slot.ensures ∙ ap (with_slot c.args.totals.now) c.is_some.ensures)) c.put_events.ensures.totals
+    (omega (arith, c.as_slice.ensures.fits)) (c.slot.ensures ∙ ap (with_slot c.args.totals.now) c.is_some.ensures)) c.put_events.ensures.totals
