@@ -1,5 +1,5 @@
 -- How totals grow.
-use Rattle.std.proofs.Common.{ℕ, ◌≡◌, ◌≤◌, ◌<◌, ◌+◌, ◌*◌, ◌^◌, List, [], ◌∷◌, ◌++◌, Option, Some, None, is_some, Bool, true, false, fold, length, length-take, take, refl, sym, ap, ◌∙◌, append_assoc, append-nil, add-zero, add-one, arith}
+use Rattle.std.proofs.Common.{ℕ, ◌≡◌, ◌≤◌, ◌+◌, ◌^◌, List, [], ◌∷◌, ◌++◌, Option, Some, None, is_some, Bool, true, false, fold, length, length-take, take, refl, sym, ap, ◌∙◌, append_assoc, append-nil, add-zero, add-one, arith}
 use Rattle.std.proofs.lemmas.Grind.{common_steps, fold-append}
 use Rattle.rx_set.specs.declared.jobs.Job.{Job}
 use Rattle.rx_set.specs.System.{System}
@@ -8,7 +8,7 @@ use Rattle.rx_tick.specs.declared.events.Event.TheVariants.{Miss, Release, Preem
 use Rattle.rx_tick.specs.declared.totals.Totals.{Totals}
 use Rattle.rx_tick.specs.Schedule.{Slot, slots, slot_at, job_in}
 use Rattle.rx_tick.specs.Events.{events, events_of, misses}
-use Rattle.rx_tick.specs.Counts.{AreBelow, counted, with_slot, totals_of, zeros}
+use Rattle.rx_tick.specs.Counts.{AreBelow, counted, with_slot, totals_of}
 use Rattle.rx_report.specs.Report.{run_totals}
 use Rattle.rx_top.specs.Runs.{AreCounts}
 

@@ -1,5 +1,5 @@
 -- From the outcome of a call to the one answer that it gives.
-use Rattle.std.proofs.Common.{ℕ, ◌≡◌, ◌≢◌, ◌≤◌, ◌<◌, ◌+◌, ◌⊎◌, inl, inr, Bool, true, false, List, [], ◌++◌, length, drop, Option, Some, None, Ok, refl, sym, ap, ◌∙◌, subst, append-nil, true≢false, arith}
+use Rattle.std.proofs.Common.{ℕ, ◌≡◌, ◌≢◌, ◌≤◌, ◌<◌, ◌+◌, inl, inr, true, false, List, [], ◌++◌, length, drop, Option, Some, None, refl, sym, ap, ◌∙◌, subst, append-nil, true≢false, arith}
 use Rattle.std.proofs.Math.Seq.{drop-append_seam}
 use Rattle.std.proofs.Math.ListN.{drop_of_length-le}
 use Rattle.std.proofs.lemmas.Bool.{cases_lt, lt-leb, le-leb}
@@ -13,7 +13,7 @@ use Rattle.rx_top.specs.declared.status.Status.TheVariants.{Done, Adverse, Words
 use Rattle.rx_top.specs.declared.words.Command.{Command}
 use Rattle.rx_top.specs.declared.words.Command.TheVariants.{Run}
 use Rattle.rx_top.specs.Words.{reads_input}
-use Rattle.rx_top.specs.Outcome.{Ends, Answer, answer, input_answer, file_answer, set_answer, run_answer, most_input, Outcome, Answered, Headline, Reported}
+use Rattle.rx_top.specs.Outcome.{Ends, Answer, answer, input_answer, file_answer, set_answer, run_answer, most_input, Outcome, Answered, Headline}
 use Rattle.rx_top.specs.Determined.{is_calm, IsDetermined, Determined, Unread}
 
 -- an input of too many bytes is no set

@@ -1,5 +1,5 @@
 -- Which answer a call gives.
-use Rattle.std.specs.Prelude.{ℕ, ◌≡◌, ◌+◌, Bool, true, false, List, drop, Option, Some, None}
+use Rattle.std.specs.Prelude.{ℕ, ◌≡◌, ◌+◌, Bool, true, false, List, drop, Option, Some}
 use Rattle.std.specs.Io.KnownBytes.{Appends}
 use Rattle.rx_top.specs.declared.words.Command.{Command}
 use Rattle.rx_top.specs.declared.status.Status.{Status}

@@ -1,5 +1,4 @@
-use Rattle.std.proofs.Common.{arith, take}
-use Rattle.rx_top.specs.Runs.{lines_of}
+use Rattle.std.proofs.Common.{arith}
 use Rattle.rx_top.proofs.Counting.{small_so_far}
 use Rattle.rx_top.proofs.Lines.{lines_around}
 use Rattle.rx_top.proofs.Writes.{puts_cut}

@@ -1,7 +1,5 @@
-use Rattle.std.proofs.Common.{◌≡◌, ◌∙◌, ap, arith}
+use Rattle.std.proofs.Common.{◌∙◌, ap, arith}
 use Rattle.std.proofs.lemmas.Result.{on_ok_weaker}
-use Rattle.rx_tick.specs.Schedule.{slots, slot_at}
-use Rattle.rx_tick.specs.Events.{events_of}
 use Rattle.rx_tick.specs.Counts.{with_slot}
 use Rattle.rx_top.proofs.Counting.{counts_next}
 use Rattle.rx_top.proofs.runs.write_slot.Goals as goal
