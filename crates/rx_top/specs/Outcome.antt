@@ -1,0 +1,162 @@
+-- What the top call answers, writes and leaves.
+use Rattle.std.specs.Prelude.{ℕ, ◌≡◌, ◌≢◌, ◌<◌, ◌≤◌, ◌==◌, nat_le, Bool, true, false, if◌then◌else◌, List, [], length, codes, Option, Some, None, IsSome, Result, Ok, Err}
+use Rattle.std.specs.Io.KnownBytes.{Appends, Keeps}
+use Rattle.rx_io.specs.Causes.{Began, IsInput}
+use Rattle.rx_set.specs.System.{System}
+use Rattle.rx_file.specs.declared.faults.FileFault.{FileFault}
+use Rattle.rx_file.specs.SetOf.{set_of}
+use Rattle.rx_report.specs.Report.{report, misses_told}
+use Rattle.rx_top.specs.declared.status.Status.{Status}
+use Rattle.rx_top.specs.declared.status.Status.TheVariants.{Done, Adverse, Words, ReadFault, BadSet, WriteFault, NoMemory}
+use Rattle.rx_top.specs.declared.words.Command.{Command}
+use Rattle.rx_top.specs.declared.words.Command.TheVariants.{Run}
+use Rattle.rx_top.specs.Words.{reads_input}
+
+-- the exit code of a status
+abbrev pub code_of : Status → ℕ
+code_of Done = 0
+code_of Adverse = 1
+code_of Words = 2
+code_of ReadFault = 3
+code_of BadSet = 6
+code_of WriteFault = 7
+code_of NoMemory = 8
+
+-- what a source and a sink tell at a moment: the bytes left and the bytes taken, and how many calls have failed
+pub record Ends : Type 0 where
+  pub left : Option (List ℕ)
+  pub read_faults : ℕ
+  pub taken : Option (List ℕ)
+  pub write_faults : ℕ
+
+abbrev pub ends : Option (List ℕ) → ℕ → Option (List ℕ) → ℕ → Ends
+ends left read_faults taken write_faults = record { left = left; read_faults = read_faults; taken = taken; write_faults = write_faults }
+
+-- a status, and all that is written with it
+pub record Answer : Type 0 where
+  pub status : Status
+  pub output : List ℕ
+
+-- the answer to words of no shape
+abbrev pub words_answer : Answer
+words_answer = record { status = Words; output = codes "words\n" }
+
+-- the answer to an input that is no set
+abbrev pub set_answer : Answer
+set_answer = record { status = BadSet; output = codes "set\n" }
+
+-- the answer of a run of so many slots
+abbrev pub run_answer : ℕ → System → Answer
+run_answer ticks system = record { status = if misses_told system ticks == 0 then Done else Adverse; output = report system ticks }
+
+-- the answer to what a task file gives, from the answer to its set
+abbrev pub file_answer : (System → Answer) → Result System FileFault → Answer
+file_answer of_set (Ok system) = of_set system
+file_answer of_set (Err fault) = set_answer
+
+-- an input has at most so many bytes
+abbrev pub most_input : ℕ
+most_input = 1048576
+
+-- the answer to an input, from the answer to its set
+abbrev pub input_answer : (System → Answer) → List ℕ → Answer
+input_answer of_set input = if nat_le (length input) most_input then file_answer of_set (set_of input) else set_answer
+
+-- The answer to the words and the input, with one line for each command.
+abbrev pub answer : Option Command → List ℕ → Answer
+answer None input = words_answer
+answer (Some (Run ticks)) input = input_answer (run_answer ticks) input
+
+-- The status and the output are an answer to the command and the input. Now there is exactly one, that of the definition.
+pub record IsAnswer (command : Option Command) (input : List ℕ) (result : Status) (output : List ℕ) : Type 0 where
+  pub status : result ≡ (answer command input).status
+  pub bytes : output ≡ (answer command input).output
+
+-- What was read: all to the end, or one byte more than an input may have. A command that reads nothing leaves the source as it was
+abbrev pub Reads : Bool → Ends → Ends → List ℕ → Type 0
+Reads true before after input = IsInput most_input before.left after.left input
+Reads false before after input = after.left ≡ before.left
+
+-- Neither count rose, the input was read, and an answer to it was written, all of it and nothing else.
+pub record Answered (command : Option Command) (before after : Ends) (result : Status) : Type 0 where
+  pub input : List ℕ
+  pub output : List ℕ
+  pub read : Reads (reads_input command) before after input
+  pub answer : IsAnswer command input result output
+  pub written : Appends before.taken after.taken output
+  pub no_read_fault : after.read_faults ≡ before.read_faults
+  pub no_write_fault : after.write_faults ≡ before.write_faults
+
+-- The source failed. The command reads its input, and nothing was written.
+pub record ReadFailed (command : Option Command) (before after : Ends) : Type 0 where
+  pub reads : reads_input command ≡ true
+  pub read_fault : before.read_faults < after.read_faults
+  pub written : Keeps before.taken after.taken
+  pub no_write_fault : after.write_faults ≡ before.write_faults
+
+-- The sink failed. The input was read, and a front of an answer to it was written.
+pub record WriteFailed (command : Option Command) (before after : Ends) : Type 0 where
+  pub input : List ℕ
+  pub status : Status
+  pub output : List ℕ
+  pub read : Reads (reads_input command) before after input
+  pub answer : IsAnswer command input status output
+  pub written : Began before.taken after.taken output
+  pub no_read_fault : after.read_faults ≡ before.read_faults
+  pub write_fault : before.write_faults < after.write_faults
+
+-- There was no memory. The words have a shape, and nothing was written.
+pub record Starved (command : Option Command) (before after : Ends) : Type 0 where
+  pub shape : IsSome command
+  pub written : Keeps before.taken after.taken
+  pub no_read_fault : after.read_faults ≡ before.read_faults
+  pub no_write_fault : after.write_faults ≡ before.write_faults
+
+-- What holds at each status.
+abbrev pub Outcome : Option Command → Ends → Ends → Status → Type 0
+Outcome command before after ReadFault = ReadFailed command before after
+Outcome command before after WriteFault = WriteFailed command before after
+Outcome command before after NoMemory = Starved command before after
+Outcome command before after Done = Answered command before after Done
+Outcome command before after Adverse = Answered command before after Adverse
+Outcome command before after Words = Answered command before after Words
+Outcome command before after BadSet = Answered command before after BadSet
+
+-- What a command does to the sink alone once its input is read: it writes its answer,
+pub record Told (answer : Answer) (old new : Option (List ℕ)) (before after : ℕ) (result : Status) : Type 0 where
+  pub status : result ≡ answer.status
+  pub written : Appends old new answer.output
+  pub no_fault : after ≡ before
+
+-- or a front of it, since the sink failed,
+pub record Cut (answer : Answer) (old new : Option (List ℕ)) (before after : ℕ) : Type 0 where
+  pub written : Began old new answer.output
+  pub fault : before < after
+
+-- or nothing, since there was no memory.
+pub record Silent (old new : Option (List ℕ)) (before after : ℕ) : Type 0 where
+  pub written : Keeps old new
+  pub no_fault : after ≡ before
+
+abbrev pub Tells : Answer → Option (List ℕ) → Option (List ℕ) → ℕ → ℕ → Status → Type 0
+Tells answer old new before after ReadFault = ⊥
+Tells answer old new before after WriteFault = Cut answer old new before after
+Tells answer old new before after NoMemory = Silent old new before after
+Tells answer old new before after Done = Told answer old new before after Done
+Tells answer old new before after Adverse = Told answer old new before after Adverse
+Tells answer old new before after Words = Told answer old new before after Words
+Tells answer old new before after BadSet = Told answer old new before after BadSet
+
+-- All of the input was read, the bytes taken are those of the report and no others, and the status says whether there is a miss.
+pub record Reported (system : System) (ticks : ℕ) (before after : Ends) (result : Status) : Type 0 where
+  pub read : after.left ≡ Some []
+  pub written : Appends before.taken after.taken (report system ticks)
+  pub status : result ≡ (if misses_told system ticks == 0 then Done else Adverse)
+
+-- The headline: `run` on an input that is a set, given memory and no fault, writes the schedule of that set.
+abbrev pub Headline : Option Command → Ends → Ends → Status → Type 0
+Headline command before after result =
+    (ticks : ℕ) (input : List ℕ) (system : System)
+    → command ≡ Some (Run ticks) → before.left ≡ Some input → length input ≤ most_input → set_of input ≡ Ok system
+    → result ≢ NoMemory → after.read_faults ≡ before.read_faults → after.write_faults ≡ before.write_faults
+    → Reported system ticks before after result

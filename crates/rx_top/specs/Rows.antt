@@ -1,0 +1,37 @@
+-- Worked words.
+use Rattle.std.specs.Prelude.{◌≡◌, refl, [], ◌∷◌, codes, Some, None}
+use Rattle.rx_top.specs.declared.words.Command.TheVariants.{Run}
+use Rattle.rx_top.specs.Words.{command_of}
+
+pub words_most : command_of (codes "run" ∷ codes "1000000" ∷ []) ≡ Some (Run 1000000)
+words_most = refl
+
+pub words_more : command_of (codes "run" ∷ codes "1000001" ∷ []) ≡ None
+words_more = refl
+
+pub words_negative : command_of (codes "run" ∷ codes "-1" ∷ []) ≡ None
+words_negative = refl
+
+pub words_alone : command_of (codes "run" ∷ []) ≡ None
+words_alone = refl
+
+pub words_none : command_of [] ≡ None
+words_none = refl
+
+pub words_zeros : command_of (codes "run" ∷ codes "007" ∷ []) ≡ Some (Run 7)
+words_zeros = refl
+
+pub words_twenty_digits : command_of (codes "run" ∷ codes "00000000000000000007" ∷ []) ≡ Some (Run 7)
+words_twenty_digits = refl
+
+pub words_more_digits : command_of (codes "run" ∷ codes "000000000000000000007" ∷ []) ≡ None
+words_more_digits = refl
+
+pub words_empty : command_of (codes "run" ∷ [] ∷ []) ≡ None
+words_empty = refl
+
+pub words_third : command_of (codes "run" ∷ codes "10" ∷ codes "x" ∷ []) ≡ None
+words_third = refl
+
+pub words_other : command_of (codes "RUN" ∷ codes "10" ∷ []) ≡ None
+words_other = refl

@@ -1,0 +1,24 @@
+-- What a run has written and counted so far.
+use Rattle.std.specs.Prelude.{ℕ, ◌≡◌, ◌+◌, ◌*◌, List, ◌++◌}
+use Rattle.std.specs.List.{flat_map}
+use Rattle.rx_set.specs.System.{System}
+use Rattle.rx_tick.specs.declared.events.Event.{Event}
+use Rattle.rx_tick.specs.declared.totals.Totals.{Totals}
+use Rattle.rx_tick.specs.Schedule.{slots}
+use Rattle.rx_tick.specs.Events.{events, misses}
+use Rattle.rx_tick.specs.Counts.{AreBelow, totals_of}
+use Rattle.rx_report.specs.Lines.{event_line, total_line}
+use Rattle.rx_report.specs.Report.{run_totals}
+
+-- the lines of some events
+abbrev pub lines_of : System → List Event → List ℕ
+lines_of system told = flat_map (event_line system) told
+
+-- The totals are those of the first n slots. A slot has at most 131 events.
+pub record AreCounts (system : System) (n : ℕ) (totals : Totals) : Type 0 where
+  pub totals_are : totals ≡ totals_of (slots system n) (events system n)
+  pub small : AreBelow (1 + 132 * n) totals
+
+-- what a set without objects writes after the events of its slots
+abbrev pub end_lines : System → ℕ → List ℕ
+end_lines system n = lines_of system (misses system (slots system n)) ++ total_line (run_totals system n)

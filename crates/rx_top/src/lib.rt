@@ -1,0 +1,15 @@
+//! The top call: the words of a command and an input in, a report and a status out.
+//!
+//! `top` does all that the program does. What it answers to which words and which input is the one definition `answer`
+//! of `specs/Outcome.antt`, and each status has its cause in `Outcome` there.
+#![tactic(auto)]
+
+mod runs;
+mod status;
+#[cfg(test)]
+mod tests;
+mod tops;
+mod words;
+
+pub use status::Status;
+pub use tops::top;

@@ -1,0 +1,179 @@
+//! Writing a run.
+ghost use Rattle.std.specs.Prelude.{◌≡◌, ◌≤◌, ◌<◌, ◌+◌, ◌*◌, ◌^◌, ◌++◌, [], length, fold, IfOk, OnOk};
+ghost use Rattle.std.specs.List.{flat_map};
+ghost use Rattle.rx_io.specs.Causes.{Puts};
+ghost use Rattle.rx_tick.specs.Schedule.{slots, slot_at};
+ghost use Rattle.rx_tick.specs.Events.{events, events_of, misses};
+ghost use Rattle.rx_tick.specs.Counts.{AreBelow, counted, totals_of, zeros};
+ghost use Rattle.rx_report.specs.Lines.{event_line, total_line};
+ghost use Rattle.rx_report.specs.Report.{report, run_totals, misses_told};
+ghost use Rattle.rx_top.specs.Runs.{lines_of, AreCounts, end_lines};
+
+use rx_io::{Failed, Sink, put};
+use rx_report::{Line, event_line, total_line};
+use rx_set::TaskSet;
+use rx_tick::{Event, Executive, Tick, Totals};
+
+/// Counts events, and hands in the line of each.
+fn put_events<K: Sink>(
+    set: &TaskSet,
+    events: &[Event],
+    totals: &mut Totals,
+    line: &mut Line,
+    sink: &mut K,
+) -> Result<(), Failed>
+    requires faults { K.faults sink.old < 2 ^ 63 }
+    requires few { length events.now ≤ 131 }
+    requires small { AreBelow (2 ^ 62) totals.old }
+    ensures puts { Puts (K.taken sink.old) (K.taken sink.new) (K.faults sink.old) (K.faults sink.new)
+        result (lines_of set.now events.now) }
+    ensures totals { OnOk result (totals.new ≡ fold counted totals.old events.now) }
+{
+    for event in events {
+        totals.count(event);
+        event_line(set, event, line);
+        match put(sink, line.as_slice()) {
+            Ok(()) => {}
+            Err(Failed) => return Err(Failed),
+        }
+    }
+    Ok(())
+}
+
+/// Hands in the line of the totals.
+fn put_totals<K: Sink>(totals: &Totals, line: &mut Line, sink: &mut K) -> Result<(), Failed>
+    requires { K.faults sink.old < 2 ^ 63 }
+    ensures { Puts (K.taken sink.old) (K.taken sink.new) (K.faults sink.old) (K.faults sink.new)
+        result (total_line totals.now) }
+{
+    total_line(totals, line);
+    put(sink, line.as_slice())
+}
+
+/// Makes the next slot, counts it, and hands in the lines of its events.
+fn write_slot<K: Sink>(
+    set: &TaskSet,
+    executive: &mut Executive,
+    tick: &mut Tick,
+    totals: &mut Totals,
+    line: &mut Line,
+    sink: &mut K,
+) -> Result<(), Failed>
+    requires faults { K.faults sink.old < 2 ^ 63 }
+    requires system { executive.old.system ≡ set.now }
+    requires time { executive.old.time < 1000000 }
+    requires counts { AreCounts set.now executive.old.time totals.old }
+    ensures next { executive.new ≡ record { system = set.now; time = executive.old.time + 1 } }
+    ensures puts { Puts (K.taken sink.old) (K.taken sink.new) (K.faults sink.old) (K.faults sink.new)
+        result (lines_of set.now
+        (events_of set.now (slots set.now executive.old.time) (slot_at set.now executive.old.time))) }
+    ensures counts { OnOk result (AreCounts set.now (executive.old.time + 1) totals.new) }
+{
+    executive.tick(tick);
+    totals.slot(tick.slot.is_some());
+    put_events(set, tick.events.as_slice(), totals, line, sink)
+}
+
+/// Makes the slots before the last time, and hands in the lines of their events.
+fn write_slots<K: Sink>(
+    set: &TaskSet,
+    executive: &mut Executive,
+    ticks: u64,
+    tick: &mut Tick,
+    totals: &mut Totals,
+    line: &mut Line,
+    sink: &mut K,
+) -> Result<(), Failed>
+    requires faults { K.faults sink.old < 2 ^ 63 }
+    requires ticks { ticks ≤ 1000000 }
+    requires start { executive.old ≡ record { system = set.now; time = 0 } }
+    requires zeros { totals.old ≡ zeros }
+    ensures end { OnOk result (executive.new ≡ record { system = set.now; time = ticks }) }
+    ensures puts { Puts (K.taken sink.old) (K.taken sink.new) (K.faults sink.old) (K.faults sink.new)
+        result (lines_of set.now (events set.now ticks)) }
+    ensures counts { OnOk result (AreCounts set.now ticks totals.new) }
+{
+    while executive.now() < ticks {
+        match write_slot(set, executive, tick, totals, line, sink) {
+            Ok(()) => {}
+            Err(Failed) => return Err(Failed),
+        }
+    }
+    Ok(())
+}
+
+/// Hands in the lines of the last misses and of the totals.
+fn write_end<K: Sink>(
+    set: &TaskSet,
+    ticks: u64,
+    late: &[Event],
+    totals: &mut Totals,
+    line: &mut Line,
+    sink: &mut K,
+) -> Result<(), Failed>
+    requires faults { K.faults sink.old < 2 ^ 63 }
+    requires ticks { ticks ≤ 1000000 }
+    requires few { length late.now ≤ 131 }
+    requires late { late.now ≡ misses set.now (slots set.now ticks) }
+    requires counts { AreCounts set.now ticks totals.old }
+    ensures puts { Puts (K.taken sink.old) (K.taken sink.new) (K.faults sink.old) (K.faults sink.new)
+        result (end_lines set.now ticks) }
+    ensures totals { OnOk result (totals.new ≡ run_totals set.now ticks) }
+{
+    match put_events(set, late, totals, line, sink) {
+        Ok(()) => put_totals(totals, line, sink),
+        Err(Failed) => Err(Failed),
+    }
+}
+
+/// A set has no objects, so no line is handed in for one.
+fn no_objects(set: &TaskSet)
+    ensures { set.now.objects ≡ [] }
+{
+    let _tasks = set.tasks();
+}
+
+/// Runs an executive from its start for so many slots, hands in the report line by line, and answers how many misses
+/// it tells. It takes no memory.
+pub(crate) fn write_run<K: Sink>(
+    set: &TaskSet,
+    executive: &mut Executive,
+    ticks: u64,
+    sink: &mut K,
+) -> Result<u64, Failed>
+    requires faults { K.faults sink.old < 2 ^ 63 }
+    requires ticks { ticks ≤ 1000000 }
+    requires start { executive.old ≡ record { system = set.now; time = 0 } }
+    ensures puts { Puts (K.taken sink.old) (K.taken sink.new) (K.faults sink.old) (K.faults sink.new)
+        result (report set.now ticks) }
+    ensures misses { IfOk result (λ n. n ≡ misses_told set.now ticks) }
+{
+    let mut tick = Tick::new();
+    let mut totals = Totals::new();
+    let mut line = Line::new();
+    match write_slots(
+        set,
+        executive,
+        ticks,
+        &mut tick,
+        &mut totals,
+        &mut line,
+        sink,
+    ) {
+        Ok(()) => {}
+        Err(Failed) => return Err(Failed),
+    }
+    executive.late(&mut tick);
+    no_objects(set);
+    match write_end(
+        set,
+        ticks,
+        tick.events.as_slice(),
+        &mut totals,
+        &mut line,
+        sink,
+    ) {
+        Ok(()) => Ok(totals.missed),
+        Err(Failed) => Err(Failed),
+    }
+}

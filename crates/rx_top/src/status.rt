@@ -1,0 +1,39 @@
+//! How a call ends.
+ghost use Rattle.std.specs.Prelude.{◌≡◌};
+ghost use Rattle.rx_top.specs.Outcome.{code_of};
+
+/// How a call of `top` ends.
+#[derive(Clone, Copy, Debug, PartialEq, Eq)]
+pub enum Status {
+    /// The whole report was written, and it tells no miss.
+    Done,
+    /// The whole report was written, and it tells a miss.
+    Adverse,
+    /// The words have no shape; the line `words` was written.
+    Words,
+    /// The source failed; nothing was written.
+    ReadFault,
+    /// The input is no set of tasks; the line `set` was written.
+    BadSet,
+    /// The sink failed; what it took is the front of what was to be written.
+    WriteFault,
+    /// The memory was refused; nothing was written.
+    NoMemory,
+}
+
+impl Status {
+    /// The exit code of the program: 0, 1, 2, 3, 6, 7 and 8, in the order of the variants.
+    pub fn code(self) -> u8
+        ensures { result ≡ code_of self }
+    {
+        match self {
+            Status::Done => 0,
+            Status::Adverse => 1,
+            Status::Words => 2,
+            Status::ReadFault => 3,
+            Status::BadSet => 6,
+            Status::WriteFault => 7,
+            Status::NoMemory => 8,
+        }
+    }
+}

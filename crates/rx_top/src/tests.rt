@@ -1,0 +1,79 @@
+use super::*;
+use rx_io::{Failed, MemorySink, MemorySource, Source};
+use std::alloc::{AllocError, Global};
+use std::test::Fail;
+
+const FILE: &str =
+    "task = [{name=\"a\", period=4, offset=1, body=[\"work 1\"]}, {name=\"b\", period=8, body=[\"work 3\"]}]\n";
+
+const REPORT: &str =
+    "0 release b 1\n1 release a 1\n1 preempt b 1 by a 1\n1 finish a 1\n3 finish b 1\n5 release a 2\n5 finish a 2\n8 release b 2\n9 release a 3\n9 preempt b 2 by a 3\n9 finish a 3\ntotal ticks 10 idle 3 released 5 finished 4 replies 0 retries 0 preempted 2 missed 0\n";
+
+const OVERLOAD: &str = "task = [{name=\"x\", period=2, body=[\"work 3\"]}]\n";
+
+const LATE: &str =
+    "0 release x 1\n2 miss x 1\n2 release x 2\n2 finish x 1\n4 miss x 2\n4 release x 3\n5 finish x 2\n6 miss x 3\ntotal ticks 6 idle 0 released 3 finished 2 replies 0 retries 0 preempted 0 missed 3\n";
+
+fn split(alloc: Global, text: &str) -> Result<Vec<String>, AllocError> {
+    let mut words = Vec::new(alloc);
+    for word in text.split(' ') {
+        words.push(String::from_str(alloc, word)?)?;
+    }
+    Ok(words)
+}
+
+#[test]
+fn answers_words_and_input(rt: HostRuntime) -> Result<(), Fail> {
+    let alloc = rt.alloc();
+    // The words, the input, the most bytes of a call, the calls of the source and of the sink that fail (0 for none),
+    // the status, and what was taken.
+    for (words, input, step, read_fails, write_fails, want, taken) in [
+        ("run 10", FILE, 4096, 0, 0, Status::Done, REPORT),
+        ("run 10", FILE, 1, 0, 0, Status::Done, REPORT),
+        ("run 6", OVERLOAD, 4096, 0, 0, Status::Adverse, LATE),
+        ("run 10", "", 4096, 0, 0, Status::BadSet, "set\n"),
+        ("run 10", FILE, 4096, 1, 0, Status::ReadFault, ""),
+        ("run 10", FILE, 4096, 0, 1, Status::WriteFault, ""),
+        (
+            "run 10",
+            FILE,
+            4096,
+            0,
+            3,
+            Status::WriteFault,
+            "0 release b 1\n1 release a 1\n",
+        ),
+        ("run 10", "", 1, 0, 3, Status::WriteFault, "se"),
+        ("runs 10", FILE, 4096, 1, 0, Status::Words, "words\n"),
+    ] {
+        assert!(rt; step > 0);
+        let words = split(alloc, words)?;
+        let bytes = input.as_bytes().to_vec(alloc)?;
+        let mut source = MemorySource::new(bytes, step, [read_fails].to_vec(alloc)?);
+        let made = MemorySink::new(alloc, 4096, step, [write_fails].to_vec(alloc)?);
+        let mut sink = made.map_err(|_| "no memory")?;
+        let status = top(alloc, words.as_slice(), &mut source, &mut sink);
+        assert_eq!(rt; status, want);
+        assert_eq!(rt; sink.taken(), taken.as_bytes());
+    }
+    Ok(())
+}
+
+#[test]
+fn words_of_no_shape_leave_the_source(rt: HostRuntime) -> Result<(), Fail> {
+    let alloc = rt.alloc();
+    let words = split(alloc, "run 1000001")?;
+    let mut source = MemorySource::new(b"abc".as_slice().to_vec(alloc)?, 4096, [1].to_vec(alloc)?);
+    let made = MemorySink::new(alloc, 4096, 4096, Vec::new(alloc));
+    let mut sink = made.map_err(|_| "no memory")?;
+    assert_eq!(rt;
+        top(alloc, words.as_slice(), &mut source, &mut sink),
+        Status::Words
+    );
+    assert_eq!(rt; sink.taken(), b"words\n".as_slice());
+    // The first call is yet to come, and fails.
+    let mut buffer = [0; 8];
+    assert_eq!(rt; source.read(&mut buffer), Err(Failed));
+    assert_eq!(rt; source.read(&mut buffer), Ok(3));
+    Ok(())
+}

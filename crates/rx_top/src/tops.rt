@@ -1,0 +1,186 @@
+//! The top call.
+ghost use Rattle.std.specs.Prelude.{◌≡◌, ◌<◌, ◌≤◌, ◌^◌, map, string_bytes, Some};
+ghost use Rattle.std.specs.Option.{ForSome};
+ghost use Rattle.rx_top.specs.Words.{command_of, IsLimited};
+ghost use Rattle.rx_top.specs.Outcome.{Outcome, Headline, Tells, ends, input_answer, run_answer, set_answer};
+ghost use Rattle.rx_top.specs.Determined.{Determined, Unread};
+
+use crate::runs::write_run;
+use crate::status::Status;
+use crate::words::{Command, command_of};
+use rx_file::{FileFault, read_set};
+use rx_io::{Failed, ReadError, Sink, Source, put, read_all};
+use rx_set::TaskSet;
+use rx_tick::Executive;
+use std::alloc::Global;
+
+// The most bytes of an input.
+const MOST_INPUT: usize = 1_048_576;
+
+/// Does all that the program does: answers the words after its name, reads the input from `source`, and writes what it
+/// tells to `sink`.
+///
+/// `run N` reads a task file, in the form that `rx_file::read_set` says, and writes the report of its schedule: the
+/// events of the slots 0 to N - 1, the misses at time N, and the line of the totals. N is a word of 1 to 20 ASCII
+/// digits, leading zeros allowed, and at most 1,000,000. All other words have no shape.
+///
+/// - `Done` and `Adverse`: the whole report was written, and it tells no miss, or tells one.
+/// - `Words`: exactly where the words have no shape. The line `words` was written, and the source is as it was.
+/// - `ReadFault`: only where the source failed in this call. Nothing was written.
+/// - `BadSet`: exactly where the input is no set of tasks or has more than 1,048,576 bytes, of which 1,048,577 are then
+///   read. The line `set` was written.
+/// - `WriteFault`: only where the sink failed in this call. A front of what was to be written was taken.
+/// - `NoMemory`: may come for any words that have a shape. Nothing was written.
+///
+/// Where the status is another than `ReadFault`, `WriteFault` and `NoMemory`, neither the source nor the sink failed, and
+/// an input that is read is read to its end. Lines are handed to the sink one at a time, and the rest of a line again
+/// where the sink took less. After a failure no further call of either is made, which no clause says but a test shows.
+/// The memory is in proportion to the input, all of it is taken before the first write, and none for words of no shape.
+/// The time is that of reading the file, and for each slot that of `Executive::tick` and of its lines. Wants a count of
+/// faults below 2^63 of the source and of the sink.
+pub fn top<S: Source, K: Sink>(
+    alloc: Global,
+    words: &[String],
+    source: &mut S,
+    sink: &mut K,
+) -> Status
+    requires source { S.faults source.old < 2 ^ 63 }
+    requires sink { K.faults sink.old < 2 ^ 63 }
+
+    // Each status has its cause, with all that was read and written.
+    ensures outcome { Outcome (command_of (map string_bytes words.now))
+        (ends (S.left source.old) (S.faults source.old) (K.taken sink.old) (K.faults sink.old))
+        (ends (S.left source.new) (S.faults source.new) (K.taken sink.new) (K.faults sink.new))
+        result }
+
+    // A command that reads gives the one answer to its input, and words of no shape theirs.
+    ensures determined { Determined (command_of (map string_bytes words.now))
+        (ends (S.left source.old) (S.faults source.old) (K.taken sink.old) (K.faults sink.old))
+        (ends (S.left source.new) (S.faults source.new) (K.taken sink.new) (K.faults sink.new))
+        result }
+    ensures unread { Unread (command_of (map string_bytes words.now))
+        (ends (S.left source.old) (S.faults source.old) (K.taken sink.old) (K.faults sink.old))
+        (ends (S.left source.new) (S.faults source.new) (K.taken sink.new) (K.faults sink.new))
+        result }
+
+    // Given memory and no fault, `run` on a set writes the report of its schedule.
+    ensures headline { Headline (command_of (map string_bytes words.now))
+        (ends (S.left source.old) (S.faults source.old) (K.taken sink.old) (K.faults sink.old))
+        (ends (S.left source.new) (S.faults source.new) (K.taken sink.new) (K.faults sink.new))
+        result }
+{
+    answer_words(alloc, command_of(words), source, sink)
+}
+
+/// Answers the command, or says that there is none.
+fn answer_words<S: Source, K: Sink>(
+    alloc: Global,
+    command: Option<Command>,
+    source: &mut S,
+    sink: &mut K,
+) -> Status
+    requires source { S.faults source.old < 2 ^ 63 }
+    requires sink { K.faults sink.old < 2 ^ 63 }
+    requires limits { ForSome command IsLimited }
+    ensures { Outcome command
+        (ends (S.left source.old) (S.faults source.old) (K.taken sink.old) (K.faults sink.old))
+        (ends (S.left source.new) (S.faults source.new) (K.taken sink.new) (K.faults sink.new))
+        result }
+{
+    match command {
+        Some(command) => answer_command(alloc, command, source, sink),
+        None => match put(sink, b"words\n") {
+            Ok(()) => Status::Words,
+            Err(Failed) => Status::WriteFault,
+        },
+    }
+}
+
+/// Answers a command.
+fn answer_command<S: Source, K: Sink>(
+    alloc: Global,
+    command: Command,
+    source: &mut S,
+    sink: &mut K,
+) -> Status
+    requires source { S.faults source.old < 2 ^ 63 }
+    requires sink { K.faults sink.old < 2 ^ 63 }
+    requires limits { IsLimited command }
+    ensures { Outcome (Some command)
+        (ends (S.left source.old) (S.faults source.old) (K.taken sink.old) (K.faults sink.old))
+        (ends (S.left source.new) (S.faults source.new) (K.taken sink.new) (K.faults sink.new))
+        result }
+{
+    match command {
+        Command::Run { ticks } => run_command(alloc, ticks, source, sink),
+    }
+}
+
+/// Reads the input, and answers `run`.
+fn run_command<S: Source, K: Sink>(
+    alloc: Global,
+    ticks: u64,
+    source: &mut S,
+    sink: &mut K,
+) -> Status
+    requires source { S.faults source.old < 2 ^ 63 }
+    requires sink { K.faults sink.old < 2 ^ 63 }
+    requires limits { ticks ≤ 1000000 }
+    ensures { Outcome (Some (Command.Run ticks))
+        (ends (S.left source.old) (S.faults source.old) (K.taken sink.old) (K.faults sink.old))
+        (ends (S.left source.new) (S.faults source.new) (K.taken sink.new) (K.faults sink.new))
+        result }
+{
+    match read_all(alloc, source, MOST_INPUT) {
+        Ok(input) => run_input(alloc, ticks, input.as_slice(), sink),
+        Err(ReadError::Fault) => Status::ReadFault,
+        Err(ReadError::Memory) => Status::NoMemory,
+    }
+}
+
+/// Runs the set of an input.
+fn run_input<K: Sink>(alloc: Global, ticks: u64, input: &[u8], sink: &mut K) -> Status
+    requires sink { K.faults sink.old < 2 ^ 63 }
+    requires limits { ticks ≤ 1000000 }
+    ensures { Tells (input_answer (run_answer ticks) input.now)
+        (K.taken sink.old) (K.taken sink.new) (K.faults sink.old) (K.faults sink.new) result }
+{
+    if input.len() > MOST_INPUT {
+        return refuse(sink);
+    }
+    match read_set(alloc, input) {
+        Ok(set) => run_set(alloc, ticks, &set, sink),
+        Err(FileFault::NoMemory) => Status::NoMemory,
+        Err(_) => refuse(sink),
+    }
+}
+
+/// Says that the input is no set.
+fn refuse<K: Sink>(sink: &mut K) -> Status
+    requires { K.faults sink.old < 2 ^ 63 }
+    ensures { Tells set_answer
+        (K.taken sink.old) (K.taken sink.new) (K.faults sink.old) (K.faults sink.new) result }
+{
+    match put(sink, b"set\n") {
+        Ok(()) => Status::BadSet,
+        Err(Failed) => Status::WriteFault,
+    }
+}
+
+/// Runs a set.
+fn run_set<K: Sink>(alloc: Global, ticks: u64, set: &TaskSet, sink: &mut K) -> Status
+    requires sink { K.faults sink.old < 2 ^ 63 }
+    requires limits { ticks ≤ 1000000 }
+    ensures { Tells (run_answer ticks set.now)
+        (K.taken sink.old) (K.taken sink.new) (K.faults sink.old) (K.faults sink.new) result }
+{
+    let mut executive = match Executive::new(alloc, set) {
+        Ok(executive) => executive,
+        Err(_) => return Status::NoMemory,
+    };
+    match write_run(set, &mut executive, ticks, sink) {
+        Ok(0) => Status::Done,
+        Ok(_) => Status::Adverse,
+        Err(Failed) => Status::WriteFault,
+    }
+}
