@@ -14,13 +14,8 @@ use Rattle.rx_set.proofs.Keys.{below_not, below_trans, jobs_same}
 use Rattle.rx_set.proofs.Releases.{number_bound}
 use Rattle.rx_tick.specs.Schedule.{Slot, Idle, Busy, Decide, Asked, job_in, sooner, chosen, is_pending, is_finished, jobs_of, all_jobs, progress, slots, slot_at, slot_of, tick_in, decides}
 use Rattle.rx_tick.specs.Laws.{who, IsPendingAt, IsLeastAt}
+use Rattle.rx_tick.proofs.Lists.{some_same, none_not}
 use Rattle.rx_tick.proofs.Prefixes.{slots_count}
-
-pub some_same : (a b : Job) → Some a ≡ Some b → a ≡ b
-some_same a b e = cc
-
-pub none_not : (a : Job) → None ≡ Some a → ⊥
-none_not a e = cc
 
 abbrev In : {X : Type 0} → X → List X → Type 0
 In x [] = ⊥

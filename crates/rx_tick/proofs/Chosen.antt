@@ -16,13 +16,9 @@ use Rattle.rx_set.proofs.Releases.{release_order}
 use Rattle.rx_tick.specs.declared.states.State.{State}
 use Rattle.rx_tick.specs.Schedule.{Slot, sooner, chosen, is_pending, is_finished, jobs_of, slots}
 use Rattle.rx_tick.specs.States.{job, state_at, IsState, AreStates, AreOffers, IsOffered, offer, best_of}
-use Rattle.rx_tick.proofs.Told.{finished_is, length-slots, released_bound}
-
-some_same : (a b : Job) → Some a ≡ Some b → a ≡ b
-some_same a b e = cc
-
-none_not : (a : Job) → None ≡ Some a → ⊥
-none_not a e = cc
+use Rattle.rx_tick.proofs.Lists.{some_same, none_not}
+use Rattle.rx_tick.proofs.Prefixes.{slots_count}
+use Rattle.rx_tick.proofs.Told.{finished_is, released_bound}
 
 -- a later job of a task never takes the place of an earlier one
 keeps : (system : System) (task k m : ℕ) (best : Option Job) → k < m → sooner system (sooner system best (job task k)) (job task m) ≡ sooner system best (job task k)
@@ -145,8 +141,8 @@ chosen_of system past now states kept length_is (suc tasks) h =
 -- the next slot goes to the soonest of the jobs that the tasks offer
 pub chosen_is : (system : System) (now : ℕ) (states : List State) → AreStates system (slots system now) (now + 1) states → chosen system (slots system now) ≡ best_of system (length system.tasks) states
 chosen_is system now states kept =
-    ap (λ (n : ℕ). fold (sooner system) None (filter (is_pending system (slots system now)) (flat_map (λ (t : ℕ). jobs_of t (n + 1)) (numbers (length system.tasks))))) (length-slots system now)
-    ∙ chosen_of system (slots system now) now states kept (length-slots system now) (length system.tasks) (omega arith)
+    ap (λ (n : ℕ). fold (sooner system) None (filter (is_pending system (slots system now)) (flat_map (λ (t : ℕ). jobs_of t (n + 1)) (numbers (length system.tasks))))) (slots_count system now)
+    ∙ chosen_of system (slots system now) now states kept (slots_count system now) (length system.tasks) (omega arith)
 
 -- the sooner of two jobs is one of them
 sooner_one : (system : System) (P : Job → Type 0) (best : Option Job) (j : Job) → ForSome best P → P j → ForSome (sooner system best j) P

@@ -1,5 +1,5 @@
 -- The jobs of tasks that pass a test.
-use Rattle.std.proofs.Common.{ℕ, zero, suc, ◌≡◌, ◌≢◌, ◌≤◌, ◌+◌, Bool, true, false, cond, List, [], ◌∷◌, ◌++◌, map, filter, refl, sym, ◌∙◌, ap, arith, append-nil}
+use Rattle.std.proofs.Common.{ℕ, zero, suc, ◌≡◌, ◌≢◌, ◌≤◌, ◌+◌, Bool, true, false, cond, List, [], ◌∷◌, ◌++◌, map, filter, Some, None, refl, sym, ◌∙◌, ap, arith, append-nil}
 use Rattle.std.proofs.Math.Decide.{dec_le}
 use Rattle.std.specs.List.{flat_map}
 use Rattle.std.proofs.lemmas.List.Elements.{filter-append}
@@ -9,6 +9,12 @@ use Rattle.rx_set.specs.declared.jobs.Job.{Job}
 use Rattle.rx_set.specs.System.{numbers}
 use Rattle.rx_tick.specs.Schedule.{jobs_of}
 use Rattle.rx_tick.specs.States.{job}
+
+pub some_same : (a b : Job) → Some a ≡ Some b → a ≡ b
+some_same a b e = cc
+
+pub none_not : (a : Job) → None ≡ Some a → ⊥
+none_not a e = cc
 
 kept : (test : Job → Bool) (j : Job) (js : List Job) (b : Bool) → test j ≡ b → filter test (j ∷ js) ≡ cond b (j ∷ filter test js) (filter test js)
 kept test j js b h = ap (λ (t : Bool). cond t (j ∷ filter test js) (filter test js)) h

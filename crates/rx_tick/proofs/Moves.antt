@@ -19,7 +19,9 @@ use Rattle.rx_tick.specs.declared.events.Event.{Event}
 use Rattle.rx_tick.specs.declared.events.Event.TheVariants.{Preempt}
 use Rattle.rx_tick.specs.Events.{last_job, preempted, decision, finish, finished_in, events_of, misses, releases}
 use Rattle.rx_tick.specs.States.{job, no_state, state_at, progress_of, tick_made, with_progress, after_tick, IsState, AreStates, IsBeforeDue, AreBeforeDue, AreBeforeRelease, IsWorkSystem, IsOffered, offer, best_of}
-use Rattle.rx_tick.proofs.Told.{length-slots, released_bound}
+use Rattle.rx_tick.proofs.Lists.{none_not}
+use Rattle.rx_tick.proofs.Prefixes.{slots_count}
+use Rattle.rx_tick.proofs.Told.{released_bound}
 use Rattle.rx_tick.proofs.Chosen.{chosen_is, best_offered}
 
 -- a slot of another job leaves the progress
@@ -306,7 +308,7 @@ module _ (system : System) (now : ℕ) (states : List State) (kept : AreStates s
       ∙ own_job system (slots system now) mine.task ((state_at states mine.task).finished + 1) (progress_of (state_at states mine.task))
       (ends_work (item_at system mine (state_at states mine.task).complete) (state_at states mine.task).made) state_here.started
       (ap (λ (j : Job). ends_work (item_at system j (state_at states mine.task).complete) (state_at states mine.task).made) mine_is)
-      ∙ ap (λ (n : ℕ). tick_made (ends_work (item_at system mine (state_at states mine.task).complete) (state_at states mine.task).made) n (state_at states mine.task)) (length-slots system now)
+      ∙ ap (λ (n : ℕ). tick_made (ends_work (item_at system mine (state_at states mine.task).complete) (state_at states mine.task).made) n (state_at states mine.task)) (slots_count system now)
 
   -- the job that has the slot is finished by it where the count of finished jobs grows
   finished_is_here : is_finished system (Busy mine ∷ slots system now) mine ≡ nat_le items_here progress_here.complete
@@ -429,10 +431,7 @@ pub known_some : (system : System) (o : Option Job) (mine : Job) → o ≡ Some 
 known_some system o mine e known = λ x f. let same_job : mine ≡ x = cc in subst (IsJob system) same_job known
 
 pub known_none : (system : System) (o : Option Job) → o ≡ None → ForSome o (IsJob system)
-known_none system o e = λ x f. absurd (none_some x (sym e ∙ f))
-  where
-    none_some : (x : Job) → None ≡ Some x → ⊥
-    none_some x g = cc
+known_none system o e = λ x f. absurd (none_not x (sym e ∙ f))
 
 -- an idle slot
 module _ (system : System) (now : ℕ) (states : List State) (kept : AreStates system (slots system now) (now + 1) states) (best : best_of system (length system.tasks) states ≡ None) where
@@ -507,6 +506,6 @@ all_told system now last best first second third fourth none l b e f g =
     g
     ∙ sym (append_assoc third d x)
     ∙ ap (λ (es : List Event). es ++ d ++ x) (f
-    ∙ ap (λ (es : List Event). es ++ preempted system past last best) (e ∙ ap (λ (es : List Event). es ++ misses system past ++ releases system now) none ∙ ap (λ (n : ℕ). misses system past ++ releases system n) (sym (length-slots system now)))
+    ∙ ap (λ (es : List Event). es ++ preempted system past last best) (e ∙ ap (λ (es : List Event). es ++ misses system past ++ releases system now) none ∙ ap (λ (n : ℕ). misses system past ++ releases system n) (sym (slots_count system now)))
     ∙ ap (λ (o : Option Job). misses system past ++ releases system (length past) ++ preempted system past o best) l
     ∙ ap (λ (o : Option Job). misses system past ++ releases system (length past) ++ preempted system past (last_job past) o) b)

@@ -11,7 +11,8 @@ use Rattle.rx_set.specs.declared.jobs.Job.{Job}
 use Rattle.rx_set.specs.System.{System, task_of, parts_of, item_at, attempt_cost}
 use Rattle.rx_tick.specs.Schedule.{Slot, Idle, Busy, Decide, Progress, job_in, same, completed, lost, ticked, ends_work, after, progress, history, won_after, decides, tick_in, slot_of, chosen, slots, slot_at}
 use Rattle.rx_tick.specs.Laws.{who, so_far, finished_before, asked_by, owned, lost_in}
-use Rattle.rx_tick.proofs.Choices.{who_is, some_same, none_not}
+use Rattle.rx_tick.proofs.Lists.{some_same, none_not}
+use Rattle.rx_tick.proofs.Choices.{who_is}
 
 pub same_self : (job : Job) → same job job ≡ true
 same_self job = grind (arith, nat_tests)

@@ -17,6 +17,7 @@ use Rattle.rx_tick.specs.declared.events.Event.TheVariants.{Miss, Release}
 use Rattle.rx_tick.specs.Schedule.{Slot, Progress, is_finished, jobs_of, slots}
 use Rattle.rx_tick.specs.Events.{is_missed, is_released_at, misses, releases}
 use Rattle.rx_tick.specs.States.{job, IsState, IsBeforeDue, AreBeforeDue, AreBeforeRelease, AreStates, is_late_at, no_state, state_at, misses_at, releases_at}
+use Rattle.rx_tick.proofs.Prefixes.{slots_count}
 use Rattle.rx_tick.proofs.Lists.{none_of, only_of, told_of, told_more}
 
 one_more : (b period : ℕ) → (b + 1) * period ≡ b * period + period
@@ -28,11 +29,6 @@ next_by offset period a b h = rw h (omega (arith, one_more b period))
 -- the next job is released a period later
 pub release_next : (system : System) (task k : ℕ) → 1 ≤ k → release system (job task (k + 1)) ≡ release system (job task k) + (task_at system task).period
 release_next system task k h = next_by (task_at system task).offset (task_at system task).period (k + 1 - 1) (k - 1) (omega arith)
-
--- a slot has as many slots behind it as its number says
-pub length-slots : (system : System) (n : ℕ) → length (slots system n) ≡ n
-length-slots system zero = refl
-length-slots system (suc n) = ap suc (length-slots system n)
 
 module _ (system : System) (past : List Slot) (time task : ℕ) (s : State) (kept : IsState system past time task s) where
   -- a job is finished if its number is among the first
@@ -200,7 +196,7 @@ releases_more system now tasks = rw (add-one tasks) (told_more (Release now) (is
 pub misses_all : (system : System) (now tasks : ℕ) → tasks ≡ length system.tasks → told_of (Miss now) (is_missed system (slots system now)) now tasks ≡ misses system (slots system now)
 misses_all system now tasks e =
     ap (λ (t : ℕ). told_of (Miss now) (is_missed system (slots system now)) now t) e
-    ∙ ap (λ (n : ℕ). told_of (Miss n) (is_missed system (slots system now)) n (length system.tasks)) (sym (length-slots system now))
+    ∙ ap (λ (n : ℕ). told_of (Miss n) (is_missed system (slots system now)) n (length system.tasks)) (sym (slots_count system now))
 
 pub releases_all : (system : System) (now tasks : ℕ) → tasks ≡ length system.tasks → told_of (Release now) (is_released_at system now) now tasks ≡ releases system now
 releases_all system now tasks e = ap (λ (t : ℕ). told_of (Release now) (is_released_at system now) now t) e
@@ -236,7 +232,7 @@ module _ (system : System) (now watch : ℕ) (states : List State) (kept : AreSt
   quiet_misses watched =
       sym (misses_all system now (length system.tasks) refl)
       ∙ quiet (Miss now) (is_missed system (slots system now)) now (length system.tasks) (λ task known.
-      missed_none system (slots system now) now task (state_at states task) (kept.each task known) kept.of.valid known (length-slots system now)
+      missed_none system (slots system now) now task (state_at states task) (kept.each task known) kept.of.valid known (slots_count system now)
       (not_late system (slots system now) now task watch (state_at states task) (kept.each task known) (watched.each task known) early))
 
   pub quiet_releases : AreBeforeRelease system watch states → releases system now ≡ []

@@ -3,7 +3,8 @@ use Rattle.rx_tick.specs.declared.events.Event.TheVariants.{Finish}
 use Rattle.rx_tick.specs.declared.states.State.{State}
 use Rattle.rx_tick.specs.Schedule.{slots}
 use Rattle.rx_tick.specs.States.{AreStates, AreBeforeDue, AreBeforeRelease, best_of}
-use Rattle.rx_tick.proofs.Told.{append_none, length-slots}
+use Rattle.rx_tick.proofs.Prefixes.{slots_count}
+use Rattle.rx_tick.proofs.Told.{append_none}
 use Rattle.rx_tick.proofs.Moves.{offered_here, state_here, job_here, states_after, best_after, due_after, release_after, done, not_done}
 use Rattle.rx_tick.proofs.slots.give_slot.Goals as goal
 
@@ -66,7 +67,7 @@ returns-clause-releases c = λ watched.
 pub returns-clause-told : goal.returns-clause-told
 returns-clause-told c =
     c.push.ensures.items
-    ∙ ap (λ (n : ℕ). c.args.events.now.items ++ (Finish n c.args.job ∷ [])) (sym (length-slots c.args.set.now c.args.now))
+    ∙ ap (λ (n : ℕ). c.args.events.now.items ++ (Finish n c.args.job ∷ [])) (sym (slots_count c.args.set.now c.args.now))
     ∙ ap (λ (b : Bool). c.args.events.now.items ++ (if b then Finish (length (slots c.args.set.now c.args.now)) c.args.job ∷ [] else []))
     (sym (done c.args.set.now c.args.now c.args.states.now c.requires.states c.args.job (sym c.requires.best ∙ c.requires.job)
     (λ e. c.if-new-old.false (ap (λ (t : State). t.finished) c.advanced-new.ensures ∙ e))))
