@@ -1,3 +1,5 @@
 pub mod Table
 pub mod History
+pub mod States
+pub mod Places
 pub mod Rows

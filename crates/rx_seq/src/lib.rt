@@ -3,13 +3,23 @@
 #![tactic(auto)]
 
 mod calls;
+mod cells;
 mod entries;
 mod kinds;
+pub mod laws;
+mod lists;
 mod memory;
+mod objects;
+mod queues;
+mod registers;
 mod replies;
 
 pub use calls::{Call, Row};
 pub use entries::Entry;
 pub use kinds::{Kind, Part};
 pub use memory::NoMemory;
+pub use objects::{State, apply, fits, start};
 pub use replies::Reply;
+
+#[cfg(test)]
+mod tests;

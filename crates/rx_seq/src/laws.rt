@@ -1,0 +1,25 @@
+//! Laws of the table. Each function does nothing: its contract is the law, and holds of every object.
+ghost use Rattle.rx_seq.specs.History.{part_at, replay};
+ghost use Rattle.rx_seq.specs.States.{IsCall, IsFitting, IsState, IsValue, only_looks, tells_no_change};
+ghost use Rattle.rx_seq.specs.Table.{IsPart, effect, fits_part, start_of};
+ghost use Rattle.rx_seq.specs.declared.calls.Call.{Call};
+ghost use Rattle.rx_seq.specs.declared.entries.Entry.{Entry};
+ghost use Rattle.rx_seq.specs.declared.kinds.Part.{Part};
+ghost use Rattle.std.specs.List.{All};
+ghost use Rattle.std.specs.Prelude.{ℕ, ◌≡◌, ◌≤◌, true, List, length};
+
+/// Objects stay within their limits: a state has at most as many numbers as the part's capacity, each of at most 32
+/// bits. The first state of a part is one of its states, so is what a call that fits makes of a state, and so is the
+/// replay of a history in which each call fits its object.
+pub fn states_are_kept()
+    ensures first { (part : Part) → IsPart part → IsState part (start_of part) }
+    ensures next { (part : Part) (state : List ℕ) (call : Call) → IsPart part → IsState part state → fits_part part call ≡ true → IsCall call → IsState part (effect part state call).state }
+    ensures bounded { (part : Part) (state : List ℕ) → IsPart part → IsState part state → (length state ≤ part.cap) × All IsValue state }
+    ensures replayed { (parts : List Part) (object : ℕ) (history : List Entry) → IsPart (part_at parts object) → All (IsFitting parts) history → IsState (part_at parts object) (replay parts object history) }
+{}
+
+/// Calls that only look leave the state equal, and so does each call whose reply tells of no change.
+pub fn states_stay_equal()
+    ensures looks { (part : Part) (state : List ℕ) (call : Call) → only_looks call ≡ true → (effect part state call).state ≡ state }
+    ensures told { (part : Part) (state : List ℕ) (call : Call) → tells_no_change (effect part state call).reply ≡ true → (effect part state call).state ≡ state }
+{}
