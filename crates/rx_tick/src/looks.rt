@@ -1,11 +1,11 @@
 // What comes at a time before its slot: misses and releases, and then which pending job is the soonest.
-ghost use Rattle.std.specs.Prelude.{ℕ, ◌≡◌, ◌≤◌, ◌<◌, ◌+◌, ◌-◌, ◌^◌, ◌++◌, ◌∷◌, [], List, length};
+ghost use Rattle.std.specs.Prelude.{ℕ, ◌≡◌, ◌≤◌, ◌<◌, ◌+◌, ◌-◌, ◌^◌, ◌++◌, slice_set, ◌∷◌, [], List, length};
 ghost use Rattle.std.specs.Option.{ForSome};
 ghost use Rattle.arrayvec.specs.ArrayVec.{array_vec_len};
 ghost use Rattle.rx_set.specs.Valid.{IsJob};
 ghost use Rattle.rx_tick.specs.Schedule.{slots, sooner};
 ghost use Rattle.rx_tick.specs.Events.{misses, releases};
-ghost use Rattle.rx_tick.specs.States.{AreStates, IsState, IsBeforeDue, AreBeforeDue, AreBeforeRelease, AreOffers, IsWorkSystem, offer, with_offer, best_of, misses_at, releases_at, is_late_at};
+ghost use Rattle.rx_tick.specs.States.{AreStates, IsState, IsBeforeDue, AreBeforeDue, AreBeforeRelease, AreOffers, IsWorkSystem, offer, with_offer, best_of, state_at, misses_at, releases_at, is_late_at};
 ghost use Rattle.rx_set.specs.System.{task_at, is_below as key_below};
 
 use crate::events::Event;
@@ -136,8 +136,8 @@ fn sooner_of(set: &TaskSet, best: Option<Job>, job: Job) -> Option<Job>
     }
 }
 
-/// Tells the release of a task, if it has one at this time, and counts it. A job that its task had not to offer before
-/// may be the soonest.
+/// Tells the release of a task, which has one at this time, and counts it. A job of a task that had none to offer
+/// before may be the soonest.
 fn count_release(
     set: &TaskSet,
     state: State,
@@ -150,7 +150,7 @@ fn count_release(
     requires known { task < length set.now.tasks }
     requires now { now < 2 ^ 40 }
     requires state { IsState set.now (slots set.now now) now task state }
-    requires due { IsBeforeDue set.now (now + 1) turn.old.next_due task state }
+    requires comes { state.next ≡ now }
     requires best { ForSome turn.old.best (IsJob set.now) }
     requires room { array_vec_len events.old < 131 }
     ensures state { IsState set.now (slots set.now now) (now + 1) task result }
@@ -163,9 +163,6 @@ fn count_release(
     ensures told { events.new.items ≡ events.old.items ++ releases_at set.now now task }
     ensures few { array_vec_len events.new ≤ array_vec_len events.old + 1 }
 {
-    if state.next != now {
-        return state;
-    }
     let row = &set.tasks()[task];
     let number = state.released + 1;
     let job = Job {
@@ -184,7 +181,42 @@ fn count_release(
     }
 }
 
-/// Tells the releases of a time, and counts them.
+/// Tells the release of a task, if it has one at this time, and counts it.
+fn look_at_release(
+    set: &TaskSet,
+    states: &mut [State],
+    task: usize,
+    turn: &mut Turn,
+    now: u64,
+    events: &mut ArrayVec<Event, 131>,
+)
+    requires of { IsWorkSystem set.now }
+    requires known { task < length set.now.tasks }
+    requires inside { task < length states.old }
+    requires now { now < 2 ^ 40 }
+    requires state { IsState set.now (slots set.now now) now task (state_at states.old task) }
+    requires due { IsBeforeDue set.now (now + 1) turn.old.next_due task (state_at states.old task) }
+    requires best { ForSome turn.old.best (IsJob set.now) }
+    requires room { array_vec_len events.old < 131 }
+    ensures write { states.new ≡ slice_set states.old task (state_at states.new task) }
+    ensures state { IsState set.now (slots set.now now) (now + 1) task (state_at states.new task) }
+    ensures same { (state_at states.new task).finished ≡ (state_at states.old task).finished }
+    ensures released { (state_at states.old task).released ≤ (state_at states.new task).released }
+    ensures due { IsBeforeDue set.now (now + 1) turn.new.next_due task (state_at states.new task) }
+    ensures sooner { turn.new.next_due ≤ turn.old.next_due }
+    ensures best { turn.new.best ≡ with_offer set.now turn.old.best task (state_at states.old task) (state_at states.new task) }
+    ensures last { turn.new.last ≡ turn.old.last }
+    ensures told { events.new.items ≡ events.old.items ++ releases_at set.now now task }
+    ensures few { array_vec_len events.new ≤ array_vec_len events.old + 1 }
+{
+    let state = states[task];
+    if state.next != now {
+        return;
+    }
+    states[task] = count_release(set, state, task, turn, now, events);
+}
+
+/// Tells the releases of a time, counts them, and answers the first time after it at which a job is released.
 fn count_releases(
     set: &TaskSet,
     states: &mut [State],
@@ -207,9 +239,8 @@ fn count_releases(
 {
     let mut next = u64::MAX;
     for task in 0..states.len() {
-        let state = count_release(set, states[task], task, turn, now, events);
-        states[task] = state;
-        next = next.min(state.next);
+        look_at_release(set, states, task, turn, now, events);
+        next = next.min(states[task].next);
     }
     next
 }

@@ -1,11 +1,12 @@
-use Rattle.std.proofs.Common.{◌<◌, ◌+◌, ◌∙◌, ap, sym, refl, subst, append-nil, arith, List, ◌++◌, length, Option}
+use Rattle.std.proofs.Common.{slice_set, min, ◌≡◌, ◌≤◌, ◌<◌, ◌+◌, ◌∙◌, ap, sym, refl, subst, append-nil, arith, List, ◌++◌, length, Option}
 use Rattle.std.specs.Option.{ForSome}
 use Rattle.rx_set.specs.declared.jobs.Job.{Job}
 use Rattle.rx_set.specs.Valid.{IsJob}
 use Rattle.rx_tick.specs.declared.events.Event.{Event}
 use Rattle.rx_tick.specs.Schedule.{slots}
-use Rattle.rx_tick.specs.States.{AreOffers, state_at, with_offer}
-use Rattle.rx_tick.proofs.Told.{releases_more, releases_all, append_more, between_more, between_few, due_write, next_write}
+use Rattle.rx_tick.specs.declared.states.State.{State}
+use Rattle.rx_tick.specs.States.{AreBeforeDue, AreOffers, best_of, state_at, with_offer}
+use Rattle.rx_tick.proofs.Told.{AreBetween, releases_more, releases_all, append_more, between_more, between_few, due_write, next_write}
 use Rattle.rx_tick.proofs.Chosen.{best_known}
 use Rattle.rx_tick.proofs.Joins.{best_with}
 use Rattle.rx_tick.proofs.looks.count_releases.Goals as goal
@@ -25,43 +26,51 @@ loop-task-init c = record {
   few = omega arith;
 }
 
-pub count_release-state-requires-clause-of : goal.count_release-state-requires-clause-of
-count_release-state-requires-clause-of c = c.requires.states.of
+pub look_at_release-requires-clause-of : goal.look_at_release-requires-clause-of
+look_at_release-requires-clause-of c = c.requires.states.of
 
-pub count_release-state-requires-clause-known : goal.count_release-state-requires-clause-known
-count_release-state-requires-clause-known c = omega (arith, c.requires.states.count)
+pub look_at_release-requires-clause-known : goal.look_at_release-requires-clause-known
+look_at_release-requires-clause-known c = omega (arith, c.requires.states.count)
 
-pub count_release-state-requires-clause-state : goal.count_release-state-requires-clause-state
-count_release-state-requires-clause-state c = c.loop-task.invariant.states.rest c.loop-task.task (omega arith) (omega (arith, c.requires.states.count))
+pub look_at_release-requires-clause-state : goal.look_at_release-requires-clause-state
+look_at_release-requires-clause-state c = c.loop-task.invariant.states.rest c.loop-task.task (omega arith) (omega (arith, c.requires.states.count))
 
-pub count_release-state-requires-clause-room : goal.count_release-state-requires-clause-room
-count_release-state-requires-clause-room c = omega (arith, c.loop-task.invariant.few, c.requires.states.count, c.requires.states.of.valid.some_tasks.1)
+pub look_at_release-requires-clause-room : goal.look_at_release-requires-clause-room
+look_at_release-requires-clause-room c = omega (arith, c.loop-task.invariant.few, c.requires.states.count, c.requires.states.of.valid.some_tasks.1)
 
 pub loop-task-preserved : goal.loop-task-preserved
-loop-task-preserved c = record {
-  states = between_more _ _ _ _ _ _ c.loop-task.invariant.states (omega (arith, c.requires.states.count)) c.count_release-state.ensures.state;
-  told = append_more _ _ _ _ _ c.loop-task.invariant.told c.count_release-state.ensures.told
-      ∙ ap (λ (es : List Event). c.args.events.now.items ++ es) (sym (releases_more c.args.set.now c.args.now c.loop-task.task));
-  best =
-      let inside : c.loop-task.task < length c.loop-task.states = omega (arith, c.loop-task.invariant.states.count, c.requires.states.count) in
-      c.count_release-state.ensures.best
-      ∙ ap (λ (b : Option Job). with_offer c.args.set.now b c.loop-task.task (state_at c.loop-task.states c.loop-task.task) c.count_release-state.result) c.loop-task.invariant.best
-      ∙ sym (best_with c.args.set.now c.loop-task.states c.loop-task.task c.count_release-state.result inside (omega (arith, c.requires.states.count))
-      c.count_release-state.ensures.same c.count_release-state.ensures.released);
-  dues = due_write c.args.set.now (c.args.now + 1) c.loop-task.turn.next_due _ c.loop-task.states c.loop-task.task c.count_release-state.result
-      (omega (arith, c.loop-task.invariant.states.count, c.requires.states.count)) c.loop-task.invariant.dues c.count_release-state.ensures.sooner c.count_release-state.ensures.due;
-  next = λ task below.
-      let there = next_write c.loop-task.states c.loop-task.task c.loop-task.next c.count_release-state.result (omega (arith, c.loop-task.invariant.states.count, c.requires.states.count)) c.loop-task.invariant.next task below in
-      omega (arith, there);
-  last = c.count_release-state.ensures.last ∙ c.loop-task.invariant.last;
-  few = omega (arith, c.loop-task.invariant.few, c.count_release-state.ensures.few);
-}
+loop-task-preserved c =
+    let system = c.args.set.now in
+    let task = c.loop-task.task in
+    let old = c.loop-task.states in
+    let now_states = c.look_at_release.new.states in
+    let new = state_at now_states task in
+    let inside : task < length old = omega (arith, c.loop-task.invariant.states.count, c.requires.states.count) in
+    let write : slice_set old task new ≡ now_states = sym c.look_at_release.ensures.write in record {
+      states = subst (AreBetween system (slots system c.args.now) c.args.now (task + 1)) write
+          (between_more system (slots system c.args.now) c.args.now task old new c.loop-task.invariant.states (omega (arith, c.requires.states.count)) c.look_at_release.ensures.state);
+      told = append_more _ _ _ _ _ c.loop-task.invariant.told c.look_at_release.ensures.told
+          ∙ ap (λ (es : List Event). c.args.events.now.items ++ es) (sym (releases_more system c.args.now task));
+      best =
+          c.look_at_release.ensures.best
+          ∙ ap (λ (b : Option Job). with_offer system b task (state_at old task) new) c.loop-task.invariant.best
+          ∙ sym (best_with system old task new inside (omega (arith, c.requires.states.count)) c.look_at_release.ensures.same c.look_at_release.ensures.released)
+          ∙ ap (best_of system (length system.tasks)) write;
+      dues = subst (AreBeforeDue system (c.args.now + 1) c.look_at_release.new.turn.next_due) write
+          (due_write system (c.args.now + 1) c.loop-task.turn.next_due _ old task new inside c.loop-task.invariant.dues c.look_at_release.ensures.sooner c.look_at_release.ensures.due);
+      next = λ other below.
+          let there = next_write old task c.loop-task.next new inside c.loop-task.invariant.next other below in
+          let here = subst (λ (xs : List State). min c.loop-task.next new.next ≤ (state_at xs other).next) write there in
+          omega (arith, here);
+      last = c.look_at_release.ensures.last ∙ c.loop-task.invariant.last;
+      few = omega (arith, c.loop-task.invariant.few, c.look_at_release.ensures.few);
+    }
 
-pub count_release-state-requires-clause-due : goal.count_release-state-requires-clause-due
-count_release-state-requires-clause-due c = c.loop-task.invariant.dues.each c.loop-task.task (omega (arith, c.requires.states.count))
+pub look_at_release-requires-clause-due : goal.look_at_release-requires-clause-due
+look_at_release-requires-clause-due c = c.loop-task.invariant.dues.each c.loop-task.task (omega (arith, c.requires.states.count))
 
-pub count_release-state-requires-clause-best : goal.count_release-state-requires-clause-best
-count_release-state-requires-clause-best c =
+pub look_at_release-requires-clause-best : goal.look_at_release-requires-clause-best
+look_at_release-requires-clause-best c =
     let offers : AreOffers c.args.set.now c.loop-task.states = record {
       of = c.requires.states.of;
       count = c.loop-task.invariant.states.count;

@@ -2,7 +2,6 @@ use Rattle.std.proofs.Common.{◌+◌, ap, arith}
 use Rattle.rx_tick.specs.Schedule.{Progress, slots}
 use Rattle.rx_tick.specs.States.{job}
 use Rattle.rx_tick.proofs.Prefixes.{slots_count}
-
 use Rattle.rx_tick.proofs.Moves.{made_bound}
 use Rattle.rx_tick.proofs.slots.advanced.Goals as goal
 
