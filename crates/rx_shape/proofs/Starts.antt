@@ -3,15 +3,15 @@ use Rattle.std.proofs.Common.{◌≡◌, ℕ, zero, suc, ◌+◌, ◌-◌, ◌*�
 use Rattle.std.specs.Prelude.{◌==◌, nat_le, nat_lt, slice_index}
 use Rattle.std.proofs.lemmas.Bool.{cond-true, cond-false, eq-eqb, ne_eqb, le-leb, lt-leb, lt-ltb, leb-true, ltb-true, and_parts, and_from, false_from_ne_true}
 use Rattle.std.proofs.lemmas.List.{length-replicate, get_or_read}
-use Rattle.std.proofs.lemmas.List.Elements.{All-nil, All-replicate}
 use mathlib.Core.Logic.{dite}
 use native.Mathlib.Decide.{ℕ_discrete}
 use Rattle.rx_seq.specs.declared.kinds.Kind.{Kind}
 use Rattle.rx_seq.specs.declared.kinds.Kind.TheVariants.{Cell, Queue, Registers, List as Ordered}
 use Rattle.rx_seq.specs.declared.kinds.Part.{Part}
-use Rattle.rx_seq.specs.Table.{IsCap, start_by, start_of}
-use Rattle.rx_seq.specs.States.{IsValue, IsStateBy, IsState}
+use Rattle.rx_seq.specs.Table.{start_by, start_of}
+use Rattle.rx_seq.specs.States.{IsState}
 use Rattle.rx_seq.specs.History.{no_part, part_at}
+use Rattle.rx_seq.proofs.Kept.{start_kept}
 use Rattle.rx_shape.specs.declared.homes.Home.{Home}
 use Rattle.rx_shape.specs.Words.{pack, tag_of, low_of}
 use Rattle.rx_shape.specs.Places.{times, run, read_run}
@@ -69,13 +69,6 @@ place_word layout object place there h =
     cond-false (place == 0) 0 (cond (nat_le place (length layout.parts)) (pack layout.first (first_place layout (place - 1))) (start_place layout place (length layout.parts))) (ne_eqb place 0 (λ e. absurd (omega arith)))
     ∙ cond-false (nat_le place (length layout.parts)) (pack layout.first (first_place layout (place - 1))) (start_place layout place (length layout.parts)) (lt-leb place (length layout.parts) (omega arith))
     ∙ start_here layout place object (length layout.parts) (omega arith) there h
-
--- the first state is a state
-start_kept : (kind : Kind) (cap : ℕ) → IsCap kind cap → IsStateBy kind cap (start_by kind cap)
-start_kept Cell cap is = record { one = refl; value = omega arith }
-start_kept Queue cap is = record { room = omega arith; values = All-nil IsValue }
-start_kept Ordered cap is = record { room = omega arith; values = All-nil IsValue; rising = λ i j d h l. absurd (omega arith) }
-start_kept Registers cap is = record { count = length-replicate cap 0; values = All-replicate IsValue cap 0 (omega arith) }
 
 zeros : (words : List ℕ) (first count : ℕ) → ((p : ℕ) → first ≤ p → p < first + count → slice_index words p ≡ 0) → read_run words first count ≡ replicate count 0
 zeros words first zero h = refl

@@ -9,8 +9,7 @@ ghost use Rattle.std.specs.List.{All};
 ghost use Rattle.std.specs.Prelude.{◌≡◌, ◌≤◌, ◌<◌, ◌+◌, ◌^◌, ◌==◌, if◌then◌else◌, IfOk, [], length, slice_index};
 
 use crate::roots::{low_of, pack};
-use arrayvec::ArrayVec;
-use rx_seq::{Kind, NoMemory, Part};
+use rx_seq::{Kind, NoMemory, Part, State};
 use std::alloc::Global;
 use std::marker::Model;
 
@@ -174,7 +173,7 @@ impl Layout {
     /// Makes the state the one that the object's root stands for, whatever it was. There are as many words as the layout
     /// says, and the root with its live places and their words is a version. It takes time that grows with the length
     /// of the state, and no memory.
-    pub fn decode(&self, words: &[u64], object: u32, state: &mut ArrayVec<u32, 64>)
+    pub fn decode(&self, words: &[u64], object: u32, state: &mut State)
         requires object { object < length self.now.parts }
         requires words { length words.now ≡ words_of self.now }
         requires version { IsVersion (home self.now object) (root_of words.now object) words.now }
@@ -213,7 +212,7 @@ fn start_length(part: Part) -> u64
 }
 
 /// Adds the numbers of a block to an empty state.
-fn read_block(words: &[u64], first: u32, state: &mut ArrayVec<u32, 64>)
+fn read_block(words: &[u64], first: u32, state: &mut State)
     requires empty { state.old.items ≡ [] }
     requires block { IsBlock words.now first }
     ensures { state.new.items ≡ read_run words.now (first + 1) (slice_index words.now first) }
