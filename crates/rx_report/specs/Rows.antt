@@ -110,7 +110,7 @@ pub line_retry : event_line called (Retry 41 28 (job 0 12) 3 8 10) ≡ codes "41
 unfolding digits
 line_retry = refl
 
--- no call is shown for an item of work, and none where there is no item or no task
+-- an item of work stands in the place of a call, and nothing stands for an item or a task that is not there
 pub line_work : event_line called (Reply 5 1 (job 0 1) 4 (Done 0) 1) ≡ codes "5 reply t 1 4 work 8 -> done 0 tag 1\n"
 unfolding digits
 line_work = refl

@@ -57,7 +57,7 @@ fits_list (Remove k) = true
 fits_list (Has k) = true
 fits_list _ = false
 
--- no register is named twice
+-- whether a number is there twice
 abbrev pub have_repeat : List ℕ → Bool
 have_repeat [] = false
 have_repeat (n ∷ ns) = list_any (λ m. m == n) ns || have_repeat ns

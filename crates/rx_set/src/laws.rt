@@ -1,4 +1,5 @@
-//! Laws of ranks, times and keys. Each function does nothing: its contract is the law, and holds of every system.
+//! Laws of ranks, times and keys. Each function does nothing: its contract is the law. It holds of every system, or
+//! where it says so of every valid one.
 ghost use Rattle.rx_set.specs.declared.jobs.Job.{Job};
 ghost use Rattle.rx_set.specs.declared.jobs.Key.{Key};
 ghost use Rattle.rx_set.specs.System.{System, key, is_ahead, is_below, rank, release, task_at};

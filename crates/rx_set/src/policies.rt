@@ -1,6 +1,6 @@
 // Policies.
 
-/// How jobs are put in order of priority (Liu and Layland 1973).
+/// How jobs are put in order of priority. The first and the last are those of Liu and Layland (1973).
 #[derive(Clone, Copy, Debug, Default, PartialEq, Eq)]
 pub enum Policy {
     /// Rate monotonic: the shorter the period, the higher the priority.

@@ -123,7 +123,6 @@ impl<'s> Executive<'s> {
     /// Tells the misses of this time alone, with no slot. It takes no memory, and its cost grows with the number of
     /// tasks.
     pub fn late(&self, out: &mut Tick)
-        requires { self.now.time < 2 ^ 40 }
         ensures at { out.new.at ≡ self.now.time }
         ensures slot { out.new.slot ≡ None }
         ensures events { out.new.events.items ≡ misses self.now.system (slots self.now.system self.now.time) }

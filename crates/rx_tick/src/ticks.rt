@@ -5,8 +5,8 @@ use crate::events::Event;
 use arrayvec::ArrayVec;
 use rx_set::Job;
 
-/// A slot of the schedule: its number, the job that has it, and its events in order. A slot has at most 131 events:
-/// a miss and a release of each of 64 tasks, a preemption, a reply or a retry, and a finish.
+/// A slot of the schedule: its number, the job that has it, and its events in order. There is room for a miss and a
+/// release of each of 64 tasks, a preemption, a reply or a retry, and a finish. A valid set has fewer tasks.
 #[derive(Debug, Drop)]
 pub struct Tick {
     pub at: u64,

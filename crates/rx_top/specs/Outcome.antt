@@ -67,7 +67,7 @@ abbrev pub answer : Option Command → List ℕ → Answer
 answer None input = words_answer
 answer (Some (Run ticks)) input = input_answer (run_answer ticks) input
 
--- The status and the output are an answer to the command and the input. Now there is exactly one, that of the definition.
+-- The status and the output are an answer to the command and the input, of which there is exactly one.
 pub record IsAnswer (command : Option Command) (input : List ℕ) (result : Status) (output : List ℕ) : Type 0 where
   pub status : result ≡ (answer command input).status
   pub bytes : output ≡ (answer command input).output

@@ -1,6 +1,8 @@
 use super::*;
-use rx_io::{Failed, MemorySink, MemorySource, Source};
+use rx_io::{Failed, InSource, MemorySink, MemorySource, OutSink, Source};
 use std::alloc::{AllocError, Global};
+use std::io;
+use std::io::{ErrorKind, Read, Write};
 use std::test::Fail;
 
 const FILE: &str =
@@ -75,5 +77,65 @@ fn words_of_no_shape_leave_the_source(rt: HostRuntime) -> Result<(), Fail> {
     let mut buffer = [0; 8];
     assert_eq!(rt; source.read(&mut buffer), Err(Failed));
     assert_eq!(rt; source.read(&mut buffer), Ok(3));
+    Ok(())
+}
+
+// Gives one byte, and then fails or ends. It counts its calls.
+#[derive(Drop)]
+struct Short {
+    calls: u64,
+    fails: bool,
+}
+
+impl Read for Short {
+    fn read(&mut self, buf: &mut [u8]) -> io::Result<usize> {
+        self.calls = self.calls.saturating_add(1);
+        if self.calls == 1 {
+            return Ok(buf.len().min(1));
+        }
+        if self.fails {
+            Err(io::Error::from(ErrorKind::Other))
+        } else {
+            Ok(0)
+        }
+    }
+}
+
+// Takes one byte, and then fails. It counts its calls.
+#[derive(Drop)]
+struct Full {
+    calls: u64,
+}
+
+impl Write for Full {
+    fn write(&mut self, buf: &[u8]) -> io::Result<usize> {
+        self.calls = self.calls.saturating_add(1);
+        if self.calls == 1 {
+            Ok(buf.len().min(1))
+        } else {
+            Err(io::Error::from(ErrorKind::Other))
+        }
+    }
+
+    fn flush(&mut self) -> io::Result<()> {
+        Ok(())
+    }
+}
+
+#[test]
+fn nothing_is_called_after_a_failure(rt: HostRuntime) -> Result<(), Fail> {
+    let alloc = rt.alloc();
+    let words = split(alloc, "run 10")?;
+    // Whether the source fails, the status, and the calls of the sink.
+    for (fails, status, writes) in [(true, Status::ReadFault, 0), (false, Status::WriteFault, 2)] {
+        let mut source = InSource::new(Short { calls: 0, fails });
+        let mut sink = OutSink::new(Full { calls: 0 });
+        assert_eq!(rt;
+            top(alloc, words.as_slice(), &mut source, &mut sink),
+            status
+        );
+        assert_eq!(rt; source.into_inner().calls, 2);
+        assert_eq!(rt; sink.into_inner().calls, writes);
+    }
     Ok(())
 }

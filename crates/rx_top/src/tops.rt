@@ -33,8 +33,8 @@ const MOST_INPUT: usize = 1_048_576;
 /// - `NoMemory`: may come for any words that have a shape. Nothing was written.
 ///
 /// Where the status is another than `ReadFault`, `WriteFault` and `NoMemory`, neither the source nor the sink failed, and
-/// an input that is read is read to its end. Lines are handed to the sink one at a time, and the rest of a line again
-/// where the sink took less. After a failure no further call of either is made, which no clause says but a test shows.
+/// an input that is read and not too large is read to its end. Lines are handed to the sink one at a time, and the rest of a line again
+/// where the sink took less. After a failure no further call of either is made, which no clause says but tests show.
 /// The memory is in proportion to the input, all of it is taken before the first write, and none for words of no shape.
 /// The time is that of reading the file, and for each slot that of `Executive::tick` and of its lines. Wants a count of
 /// faults below 2^63 of the source and of the sink.
