@@ -1,0 +1,55 @@
+-- The numbering of words: word 0 belongs to no object, then come the roots of the objects, and then their places.
+use Rattle.std.specs.Prelude.{ℕ, ◌+◌, ◌*◌, ◌<◌, ◌≤◌, ◌^◌, List, [], ◌∷◌, length, take, slice_index}
+use Rattle.std.specs.List.{All}
+use Rattle.rx_seq.specs.declared.kinds.Part.{Part}
+use Rattle.rx_seq.specs.Table.{IsPart}
+use Rattle.rx_seq.specs.History.{part_at}
+use Rattle.rx_shape.specs.declared.homes.Home.{Home}
+use Rattle.rx_shape.specs.Forms.{Form, inline, block, form_of, stock_size}
+
+-- the parts of the objects, the number of seats, and the tag at the start
+pub record Layout : Type 0 where
+  pub parts : List Part
+  pub seats : ℕ
+  pub first : ℕ
+
+-- the limits
+pub record IsLayout (layout : Layout) : Type 0 where
+  pub few : length layout.parts ≤ 16
+  pub parts : All IsPart layout.parts
+  pub one : 1 ≤ layout.seats
+  pub seats : layout.seats ≤ 64
+  pub tag : layout.first < 2 ^ 40
+
+-- an object has a stock of its own and one for each seat
+abbrev pub places_of : ℕ → Part → ℕ
+places_of seats part = stock_size part * (seats + 1)
+
+abbrev pub all_places : ℕ → List Part → ℕ
+all_places seats [] = 0
+all_places seats (part ∷ parts) = places_of seats part + all_places seats parts
+
+-- the number of words
+abbrev pub words_of : Layout → ℕ
+words_of layout = length layout.parts + 1 + all_places layout.seats layout.parts
+
+-- where the places of an object begin
+abbrev pub place_after : Layout → ℕ → ℕ
+place_after layout object = length layout.parts + 1 + all_places layout.seats (take object layout.parts)
+
+abbrev pub first_as : Form → ℕ → ℕ
+first_as inline place = 0
+first_as block place = place
+
+-- the first place of an object, and 0 for a cell
+abbrev pub first_place : Layout → ℕ → ℕ
+first_place layout object = first_as (form_of (part_at layout.parts object).kind) (place_after layout object)
+
+-- the part of an object and its places
+abbrev pub home : Layout → ℕ → Home
+home layout object =
+    record { part = part_at layout.parts object; first = first_place layout object; count = places_of layout.seats (part_at layout.parts object) }
+
+-- the root of an object
+abbrev pub root_of : List ℕ → ℕ → ℕ
+root_of words object = slice_index words (object + 1)

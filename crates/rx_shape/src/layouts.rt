@@ -1,0 +1,224 @@
+// The numbering of words and places.
+ghost use Rattle.rx_seq.specs.History.{part_at};
+ghost use Rattle.rx_seq.specs.Table.{IsPart, start_of};
+ghost use Rattle.rx_shape.specs.Forms.{IsBlock, IsVersion, decoded, stock_size};
+ghost use Rattle.rx_shape.specs.Layout.{Layout as Numbering, IsLayout, all_places, first_place, home, place_after, places_of, root_of, words_of};
+ghost use Rattle.rx_shape.specs.Places.{read_run};
+ghost use Rattle.rx_shape.specs.Start.{start_place, start_word};
+ghost use Rattle.std.specs.List.{All};
+ghost use Rattle.std.specs.Prelude.{◌≡◌, ◌≤◌, ◌<◌, ◌+◌, ◌^◌, ◌==◌, if◌then◌else◌, IfOk, [], length, slice_index};
+
+use crate::roots::{low_of, pack};
+use rx_seq::{Kind, NoMemory, Part, State};
+use std::alloc::Global;
+use std::marker::Model;
+
+/// The parts of the objects, the number of seats, the tag at the start, and the numbering of all words that follows
+/// from these: word 0, the roots of the objects, and the places of each object that is no cell. Objects are numbered
+/// from 0. Clauses see the parts, the number of seats and the first tag.
+#[derive(Debug, Drop)]
+pub struct Layout {
+    parts: Vec<Part>,
+    seats: u32,
+    first: u64,
+}
+
+impl Model for Layout {
+    ghost use Rattle.rx_shape.specs.Layout.{Layout as Numbering, IsLayout};
+
+    ghost Value = { Numbering };
+
+    ghost view = { λ l. record { parts = l.parts.items; seats = l.seats; first = l.first } };
+
+    ghost invariant = { λ l. IsLayout (record { parts = l.parts.items; seats = l.seats; first = l.first }) };
+}
+
+/// How many places a version of the part has, and how many a seat owns of it.
+fn stock(part: Part) -> u32
+    requires { IsPart part }
+    ensures value { result ≡ stock_size part }
+    ensures bound { result ≤ 65 }
+{
+    match part.kind {
+        Kind::Cell => 0,
+        _ => part.cap + 1,
+    }
+}
+
+/// How many places an object of this part has: a stock of its own and one for each seat.
+fn places_in(part: Part, seats: u32) -> u32
+    requires part { IsPart part }
+    requires seats { seats ≤ 64 }
+    ensures value { result ≡ places_of seats part }
+    ensures bound { result ≤ 4225 }
+{
+    stock(part) * (seats + 1)
+}
+
+impl Layout {
+    /// The layout of these objects: at most 16 parts within their limits, 1 to 64 seats, and a first tag of at most 40
+    /// bits, with which each object starts. `NoMemory` is the one refusal, where there is no memory for the parts.
+    pub fn new(alloc: Global, parts: &[Part], seats: u32, first: u64) -> Result<Layout, NoMemory>
+        requires { IsLayout (record { parts = parts.now; seats = seats; first = first }) }
+        ensures { IfOk result (λ layout. layout ≡ record { parts = parts.now; seats = seats; first = first }) }
+    {
+        let parts = match Vec::from_slice(alloc, parts) {
+            Ok(parts) => parts,
+            Err(_) => return Err(NoMemory),
+        };
+        Ok(Layout {
+            parts,
+            seats,
+            first,
+        })
+    }
+
+    /// The parts of the objects, in order.
+    pub fn parts(&self) -> &[Part]
+        ensures parts { result.now ≡ self.now.parts }
+        ensures limits { IsLayout self.now }
+    {
+        self.parts.as_slice()
+    }
+
+    /// The number of seats.
+    pub fn seats(&self) -> u32
+        ensures { result ≡ self.now.seats }
+    {
+        self.seats
+    }
+
+    /// The tag with which each object starts.
+    pub fn first(&self) -> u64
+        ensures { result ≡ self.now.first }
+    {
+        self.first
+    }
+
+    /// How many words there are, at most 67,617. It takes time that grows with the number of objects.
+    pub fn words(&self) -> u32
+        ensures value { result ≡ words_of self.now }
+        ensures bound { result ≤ 67617 }
+    {
+        self.place_after(self.parts.len() as u32)
+    }
+
+    /// Where the places of the first so many objects end.
+    fn place_after(&self, object: u32) -> u32
+        requires { object ≤ length self.now.parts }
+        ensures value { result ≡ place_after self.now object }
+        ensures bound { result ≤ 67617 }
+    {
+        let mut place = self.parts.len() as u32 + 1;
+        for before in 0..object as usize {
+            place += places_in(self.parts[before], self.seats);
+        }
+        place
+    }
+
+    /// The object's first place, and 0 for a cell. It takes time that grows with the number of objects.
+    pub fn first_place(&self, object: u32) -> u32
+        requires { object < length self.now.parts }
+        ensures value { result ≡ first_place self.now object }
+        ensures bound { result ≤ 67617 }
+    {
+        match self.parts[object as usize].kind {
+            Kind::Cell => 0,
+            _ => self.place_after(object),
+        }
+    }
+
+    /// The number of the object's places, and 0 for a cell. It takes constant time.
+    pub fn places(&self, object: u32) -> u32
+        requires { object < length self.now.parts }
+        ensures value { result ≡ places_of self.now.seats (part_at self.now.parts object) }
+        ensures bound { result ≤ 4225 }
+    {
+        places_in(self.parts[object as usize], self.seats)
+    }
+
+    /// The first value of a word: 0 for word 0, the first tag with the value 0 or the object's first place for a root,
+    /// and for a place the length of the object's first state or 0. It takes time that grows with the number of objects.
+    pub fn start_word(&self, word: u32) -> u64
+        requires { word < words_of self.now }
+        ensures { result ≡ start_word self.now word }
+    {
+        if word == 0 {
+            return 0;
+        }
+        if word <= self.parts.len() as u32 {
+            return pack(self.first, self.first_place(word - 1));
+        }
+        self.start_place(word)
+    }
+
+    /// The first value of a place.
+    fn start_place(&self, place: u32) -> u64
+        requires places { length self.now.parts < place }
+        requires words { place < words_of self.now }
+        ensures { result ≡ start_place self.now place (length self.now.parts) }
+    {
+        let mut first = self.parts.len() as u32 + 1;
+        for object in 0..self.parts.len() {
+            let part = self.parts[object];
+            let count = places_in(part, self.seats);
+            if place < first + count {
+                return start_value(part, first, place);
+            }
+            first += count;
+        }
+        unreachable!()
+    }
+
+    /// Makes the state the one that the object's root stands for, whatever it was. There are as many words as the layout
+    /// says, and the root with its live places and their words is a version. It takes time that grows with the length
+    /// of the state, and no memory.
+    pub fn decode(&self, words: &[u64], object: u32, state: &mut State)
+        requires object { object < length self.now.parts }
+        requires words { length words.now ≡ words_of self.now }
+        requires version { IsVersion (home self.now object) (root_of words.now object) words.now }
+        ensures { state.new.items ≡ decoded (home self.now object) (root_of words.now object) words.now }
+    {
+        let low = low_of(words[object as usize + 1]);
+        state.clear();
+        match self.parts[object as usize].kind {
+            Kind::Cell => state.push(low),
+            _ => read_block(words, low, state),
+        }
+    }
+}
+
+/// The first value of a place of an object that has its places from the first one on.
+fn start_value(part: Part, first: u32, place: u32) -> u64
+    requires { IsPart part }
+    ensures { result ≡ (if place == first then length (start_of part) else 0) }
+{
+    if place == first {
+        start_length(part)
+    } else {
+        0
+    }
+}
+
+/// How many numbers the first state of a part has.
+fn start_length(part: Part) -> u64
+    ensures { result ≡ length (start_of part) }
+{
+    match part.kind {
+        Kind::Cell => 1,
+        Kind::Queue | Kind::List => 0,
+        Kind::Registers => u64::from(part.cap),
+    }
+}
+
+/// Adds the numbers of a block to an empty state.
+fn read_block(words: &[u64], first: u32, state: &mut State)
+    requires empty { state.old.items ≡ [] }
+    requires block { IsBlock words.now first }
+    ensures { state.new.items ≡ read_run words.now (first + 1) (slice_index words.now first) }
+{
+    let length = words[first as usize];
+    for number in 0..length as usize {
+        state.push(words[first as usize + 1 + number] as u32);
+    }
+}

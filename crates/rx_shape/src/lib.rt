@@ -1,0 +1,21 @@
+//! Objects in memory: tagged root words, the numbering of words and places, versions of an object, and the shapes that
+//! read a version and plan the next one. What a root and the words stand for is `specs/Forms.antt`.
+#![tactic(auto)]
+
+mod cells;
+mod homes;
+mod inline;
+pub mod laws;
+mod layouts;
+mod plans;
+mod roots;
+mod shapes;
+#[cfg(test)]
+mod tests;
+
+pub use homes::Home;
+pub use inline::Inline;
+pub use layouts::Layout;
+pub use plans::{Pair, Plan, Taken, Trade, Want, Write};
+pub use roots::{low_of, pack, tag_of};
+pub use shapes::Shape;

@@ -1,0 +1,49 @@
+// What an attempt reads, writes and trades.
+
+use arrayvec::ArrayVec;
+
+/// A place that was read, and the word that stood there.
+#[derive(Clone, Copy, Debug, Default, PartialEq, Eq)]
+pub struct Taken {
+    pub place: u32,
+    pub word: u64,
+}
+
+/// A word that is written into the own place of this number, from 0.
+#[derive(Clone, Copy, Debug, Default, PartialEq, Eq)]
+pub struct Write {
+    pub own: u32,
+    pub value: u64,
+}
+
+/// The own place of this number, from 0, becomes this place.
+#[derive(Clone, Copy, Debug, Default, PartialEq, Eq)]
+pub struct Pair {
+    pub own: u32,
+    pub place: u32,
+}
+
+/// Which own places become which places if the exchange finds the expected root.
+#[derive(Drop)]
+pub struct Trade {
+    pub pairs: ArrayVec<Pair, 65>,
+}
+
+/// What an attempt writes, the root that it exchanges for, and the trade.
+#[derive(Drop)]
+pub struct Plan {
+    pub root: u64,
+    pub writes: ArrayVec<Write, 65>,
+    pub trade: Trade,
+}
+
+/// What an attempt needs next.
+#[derive(Clone, Copy, Debug, PartialEq, Eq)]
+pub enum Want {
+    /// The word of this place.
+    Read { place: u32 },
+    /// Nothing more: the words that were read settle the reply and the plan.
+    Ready,
+    /// Nothing more: no version has the words that were read.
+    Stale,
+}
