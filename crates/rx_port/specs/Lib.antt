@@ -1,0 +1,4 @@
+pub mod Core
+pub mod Lawful
+pub mod Events
+pub mod Seats
