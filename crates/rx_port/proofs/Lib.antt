@@ -3,3 +3,4 @@ pub mod Histories
 pub mod Placing
 pub mod Lawfully
 pub mod Seating
+pub mod BankSteps

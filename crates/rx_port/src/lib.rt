@@ -2,13 +2,13 @@
 //! words and the seats is `specs/Core.antt`, and what always holds of them `specs/Lawful.antt`.
 #![tactic(auto)]
 
-// mod banks;
-// mod desks;
+mod banks;
+mod desks;
 pub mod laws;
 mod ports;
-// mod trades;
+mod trades;
 mod views;
 
-// pub use banks::Bank;
+pub use banks::Bank;
 pub use ports::Port;
 pub use views::{Attempt, Core, Counts, Exchange, Joined, Known, View};
