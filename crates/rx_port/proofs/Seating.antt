@@ -1,12 +1,14 @@
 -- New seats, and the start.
-use Rattle.std.proofs.Common.{◌≡◌, ◌≢◌, ℕ, zero, suc, ◌+◌, ◌-◌, ◌*◌, ◌<◌, ◌≤◌, ◌^◌, true, false, List, [], ◌∷◌, ◌++◌, length, refl, sym, ap, ◌∙◌, subst, ◌⊎◌, inl, inr, ⊎_elim, arith, suc-mul, mul_comm, mul-le-mul_right}
-use Rattle.std.specs.Prelude.{slice_index_or, Option, Some, None, IfSome}
+use Rattle.std.proofs.Common.{◌≡◌, ◌≢◌, ℕ, zero, suc, ◌+◌, ◌-◌, ◌*◌, ◌<◌, ◌≤◌, ◌^◌, true, false, List, [], ◌∷◌, ◌++◌, length, refl, sym, ap, ◌∙◌, subst, ◌⊎◌, inl, inr, ⊎_elim, arith, suc-mul, mul_comm, mul-le-mul_right, add-one, append_assoc, drop, drop-cons}
+use Rattle.std.specs.Prelude.{slice_index, slice_index_or, Option, Some, None, IfSome}
+use Rattle.std.proofs.lemmas.List.{get_or_push, get_or_append_left}
 use mathlib.Core.Option.{some, some-ne-none, some-injective}
 use mathlib.Core.Logic.{dite}
 use native.Mathlib.Decide.{ℕ_discrete}
 use lib.ListN.{get_elem?}
 use Rattle.rx_seq.specs.declared.kinds.Part.{Part}
 use Rattle.rx_seq.specs.declared.entries.Entry.{Entry}
+use Rattle.rx_seq.specs.History.{no_part}
 use Rattle.rx_shape.specs.declared.homes.Home.{Home}
 use Rattle.rx_shape.specs.Places.{times, total, run}
 use Rattle.rx_shape.specs.Forms.{stock_size, first_own, start_own, InRange, live, IsStock}
@@ -162,3 +164,29 @@ module _ (l : Layout) (words : List ℕ) (limits : IsLayout l) (start : IsStart 
   seated_lawful (suc n) few =
       let many = length-seated n in
       subst (λ (m : ℕ). Lawful l words (seated l n ++ newcomer l None m None ∷ []) []) many (add_lawful l None None (seated l n) (omega arith) words [] (seated_lawful n (omega arith)) tt)
+
+-- one more place of a run
+pub run_end : (first count : ℕ) → run first (count + 1) ≡ run first count ++ (first + count) ∷ []
+run_end first zero = ap (λ (n : ℕ). n ∷ []) (let e : first ≡ first + 0 = omega arith in e)
+run_end first (suc count) =
+    ap (λ (n : ℕ). run first n) (let e : suc count + 1 ≡ suc (count + 1) = omega arith in e)
+    ∙ ap (λ (xs : List ℕ). first ∷ xs) (run_end (first + 1) count)
+    ∙ ap (λ (n : ℕ). first ∷ run (first + 1) count ++ n ∷ []) (let e : first + 1 + count ≡ first + suc count = omega arith in e)
+
+-- one more object's places
+pub starts_step : (l : Layout) (seat o : ℕ) (own : List (List ℕ)) → o < length l.parts → own ++ starts l seat o (drop o l.parts) ≡ starts l seat 0 l.parts
+    → (own ++ start_own (home l o) seat ∷ []) ++ starts l seat (o + 1) (drop (o + 1) l.parts) ≡ starts l seat 0 l.parts
+starts_step l seat o own there h =
+    append_assoc own (start_own (home l o) seat ∷ []) (starts l seat (o + 1) (drop (o + 1) l.parts))
+    ∙ ap (λ (n : ℕ). own ++ start_own (home l o) seat ∷ starts l seat n (drop n l.parts)) (add-one o)
+    ∙ ap (λ (xs : List Part). own ++ starts l seat o xs) (sym (drop-cons l.parts o no_part there)) ∙ h
+
+-- one more seat
+pub seated_step : (l : Layout) (count : ℕ) → seated l (count + 1) ≡ seated l count ++ newcomer l None count None ∷ []
+seated_step l count = ap (seated l) (add-one count)
+
+-- one more word that is as it should be
+pub each_end : (f : ℕ → ℕ) (xs : List ℕ) (x n : ℕ) → length xs ≡ n → x ≡ f n → ((k : ℕ) → k < n → slice_index xs k ≡ f k) → (k : ℕ) → k < n + 1 → slice_index (xs ++ x ∷ []) k ≡ f k
+each_end f xs x n many is each k below = dite (ℕ_discrete k n)
+    (λ e. get_or_push xs x 0 k (many ∙ sym e) ∙ is ∙ ap f (sym e))
+    (λ ne. get_or_append_left xs (x ∷ []) 0 k (omega arith) ∙ each k (omega arith))

@@ -3,20 +3,24 @@ ghost use Rattle.rx_port.specs.Core.{tag_after};
 ghost use Rattle.rx_port.specs.Events.{OwnsWell};
 ghost use Rattle.rx_port.specs.Lawful.{Lawful};
 ghost use Rattle.rx_port.specs.Plain.{view_at, HasRoom, IsPlain, less_room};
+ghost use Rattle.rx_port.specs.Seats.{no_counts, seated};
 ghost use Rattle.rx_seq.specs.History.{replay};
 ghost use Rattle.rx_seq.specs.declared.entries.Entry.{Entry};
 ghost use Rattle.rx_shape.specs.Forms.{decoded};
 ghost use Rattle.rx_shape.specs.Layout.{home, root_of};
+ghost use Rattle.rx_shape.specs.Start.{IsStart};
 ghost use Rattle.rx_shape.specs.Words.{tag_of as tag_in};
-ghost use Rattle.std.specs.Prelude.{◌≡◌, ◌<◌, ◌==◌, if◌then◌else◌, List, Some, length};
+ghost use Rattle.std.specs.Prelude.{◌≡◌, ◌<◌, ◌==◌, if◌then◌else◌, IfOk, List, [], Some, length};
 
 use crate::desks;
 use crate::desks::Desk;
 use crate::ports::Port;
+use crate::starts::{start_desks, start_words};
 use crate::trades::place_at;
 use crate::views::Counts;
-use rx_seq::{Call, State};
+use rx_seq::{Call, NoMemory, State};
 use rx_shape::{Layout, Taken, Trade, Write, tag_of};
+use std::alloc::Global;
 use std::marker::Model;
 
 /// All words of a layout in a plain vector, with the open attempt and the own places of each seat, and counts of the
@@ -41,6 +45,26 @@ impl Model for Bank {
 }
 
 impl Bank {
+    /// The bank of a layout: the words of the start, and each seat with its places of the start and no open attempt. All
+    /// counts are 0. `NoMemory` is the one refusal, and then the layout is dropped.
+    pub fn new(alloc: Global, layout: Layout) -> Result<Bank, NoMemory>
+        ensures layout { IfOk result (λ bank. bank.layout ≡ layout) }
+        ensures counts { IfOk result (λ bank. bank.core.counts ≡ Some no_counts) }
+        ensures seats { IfOk result (λ bank. bank.core.views ≡ seated layout layout.seats) }
+        ensures words { IfOk result (λ bank. IsStart layout bank.core.words) }
+        ensures lawful { IfOk result (λ bank. Lawful layout bank.core.words bank.core.views []) }
+    {
+        let _parts = layout.parts();
+        let words = start_words(alloc, &layout)?;
+        let desks = start_desks(alloc, &layout)?;
+        Ok(Bank {
+            layout,
+            words,
+            desks,
+            counts: Counts::default(),
+        })
+    }
+
     /// What its words stand for.
     pub fn layout(&self) -> &Layout
         ensures { result.now ≡ self.now.layout }

@@ -6,6 +6,7 @@ mod banks;
 mod desks;
 pub mod laws;
 mod ports;
+mod starts;
 mod trades;
 mod views;
 
