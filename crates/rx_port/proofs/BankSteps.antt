@@ -1,6 +1,6 @@
 -- The events of a bank.
-use Rattle.std.proofs.Common.{◌≡◌, ℕ, zero, suc, ◌+◌, ◌*◌, ◌<◌, ◌≤◌, true, cond, List, [], ◌∷◌, length, set, get_or, map, refl, sym, ap, ◌∙◌, subst, arith}
-use Rattle.std.specs.Prelude.{◌==◌, slice_index, slice_index_or, Option, Some, None, option_map}
+use Rattle.std.proofs.Common.{◌≡◌, ℕ, zero, suc, ◌+◌, ◌<◌, true, cond, List, [], ◌∷◌, length, set, get_or, map, refl, sym, ap, ◌∙◌, subst, arith}
+use Rattle.std.specs.Prelude.{◌==◌, slice_index, slice_index_or, Option, Some, None}
 use mathlib.Core.Option.{some, some-ne-none, some-injective}
 use lib.ListN.{get_elem?}
 use Rattle.std.proofs.lemmas.List.{map-set, get_or_read, get_or-map, get_or-set_same, length-set, length-map}
@@ -17,9 +17,8 @@ use Rattle.rx_shape.proofs.Local.{stock_many}
 use Rattle.rx_port.specs.declared.views.Counts.{Counts}
 use Rattle.rx_port.specs.declared.views.Attempt.{Attempt}
 use Rattle.rx_port.specs.declared.views.View.{View}
-use Rattle.rx_port.specs.declared.views.Core.{Core}
 use Rattle.rx_port.specs.declared.desks.Desk.{Desk}
-use Rattle.rx_port.specs.Core.{own_of, one_load, one_store, one_exchange, loaded, stored, exchanged, new_attempt, begun_view, read_view, written_view, entry_for, history_after, decided_view, traded_own}
+use Rattle.rx_port.specs.Core.{own_of, one_load, one_store, one_exchange, new_attempt, begun_view, read_view, written_view, entry_for, decided_view, traded_own}
 use Rattle.rx_port.specs.Lawful.{Lawful}
 use Rattle.rx_port.specs.Events.{Found, Begun, DidRead, DidWrite, Decided, IsDecision, OwnsWell}
 use Rattle.rx_port.specs.Plain.{view_of, plain_core, nobody, view_at, whole_of, IsBank, IsPlain}

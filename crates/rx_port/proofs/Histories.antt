@@ -1,6 +1,6 @@
 -- What one more entry does to a history.
-use Rattle.std.proofs.Common.{◌≡◌, ◌≢◌, ℕ, suc, ◌+◌, Bool, true, false, cond, List, [], ◌∷◌, ◌++◌, refl, sym, ap, ◌∙◌, arith}
-use Rattle.std.specs.Prelude.{◌==◌, ◌&&◌}
+use Rattle.std.proofs.Common.{◌≡◌, ◌≢◌, ℕ, suc, ◌+◌, Bool, cond, List, [], ◌∷◌, refl, ap, ◌∙◌, arith}
+use Rattle.std.specs.Prelude.{◌==◌}
 use Rattle.std.proofs.Math.Bool.{and-true}
 use Rattle.std.proofs.lemmas.Bool.{cond-true, cond-false, eq-eqb, ne_eqb}
 use Rattle.rx_seq.specs.declared.calls.Call.{Call}
@@ -9,7 +9,7 @@ use Rattle.rx_seq.specs.Table.{effect}
 use Rattle.rx_seq.specs.History.{part_at, replay, tag_of as count_loud}
 use Rattle.rx_seq.specs.Legal.{IsLegal, entries_of}
 use Rattle.rx_shape.specs.Layout.{Layout}
-use Rattle.rx_port.specs.Core.{tag_after, entry_for}
+use Rattle.rx_port.specs.Core.{entry_for}
 use Rattle.rx_port.specs.Lawful.{IsOlder}
 
 pub older-refl : (xs : List Entry) → IsOlder xs xs

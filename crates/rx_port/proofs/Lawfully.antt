@@ -1,9 +1,9 @@
 -- Each event from a lawful core gives a lawful core.
-use Rattle.std.proofs.Common.{◌≡◌, ◌≢◌, ℕ, zero, suc, ◌+◌, ◌-◌, ◌*◌, ◌<◌, ◌≤◌, ◌^◌, Bool, true, false, cond, List, [], ◌∷◌, ◌++◌, length, set, refl, sym, ap, ◌∙◌, subst, ◌⊎◌, ⊎_elim, arith}
-use Rattle.std.specs.Prelude.{◌==◌, slice_index, slice_index_or, Option, Some, None, IfSome, option_map}
+use Rattle.std.proofs.Common.{◌≡◌, ◌≢◌, ℕ, suc, ◌+◌, ◌<◌, ◌≤◌, ◌^◌, Bool, true, false, cond, List, [], ◌∷◌, length, set, refl, sym, ap, ◌∙◌, subst, ⊎_elim, arith}
+use Rattle.std.specs.Prelude.{◌==◌, slice_index, Option, Some, None, IfSome, option_map}
 use Rattle.std.proofs.lemmas.Bool.{eqb-true}
 use Rattle.std.proofs.lemmas.List.{set-get_or, get_or-set_same, get_or-set_other, length-set}
-use mathlib.Core.Option.{some, some-ne-none}
+use mathlib.Core.Option.{some}
 use mathlib.Core.Logic.{dite}
 use native.Mathlib.Decide.{ℕ_discrete}
 use lib.ListN.{get_elem?}
@@ -16,9 +16,9 @@ use Rattle.rx_shape.specs.declared.plans.Taken.{Taken}
 use Rattle.rx_shape.specs.declared.plans.Write.{Write}
 use Rattle.rx_shape.specs.declared.plans.Pair.{Pair}
 use Rattle.rx_shape.specs.Words.{tag_of}
-use Rattle.rx_shape.specs.Places.{times, total}
+use Rattle.rx_shape.specs.Places.{times}
 use Rattle.rx_shape.specs.Forms.{stock_size, InRange, live, decoded, IsVersion, IsStock}
-use Rattle.rx_shape.specs.Layout.{Layout, home, root_of, words_of}
+use Rattle.rx_shape.specs.Layout.{Layout, home, root_of}
 use Rattle.rx_shape.specs.Versions.{HasRead, NotWritten, traded, Makes, Plans, IsStale, Same}
 use Rattle.rx_shape.proofs.Times.{times_at}
 use Rattle.rx_shape.proofs.Numbering.{one_range, not_root, in_words, root_in_words}
@@ -28,9 +28,8 @@ use Rattle.rx_port.specs.declared.views.Exchange.{Exchange}
 use Rattle.rx_port.specs.declared.views.Known.{Known}
 use Rattle.rx_port.specs.declared.views.Joined.{Joined}
 use Rattle.rx_port.specs.declared.views.View.{View}
-use Rattle.rx_port.specs.declared.views.Core.{Core}
-use Rattle.rx_port.specs.Core.{tag_after, own_of, loaded, stored, exchanged, begun_known, begun_view, read_view, written_view, entry_for, history_after, decided_known, decided_view, exchange_of}
-use Rattle.rx_port.specs.Lawful.{IsOlder, placed, IsAttempt, IsKnown, OwnsAll, IsView, IsJoined, Lawful, NoneUnmade}
+use Rattle.rx_port.specs.Core.{tag_after, own_of, begun_known, begun_view, read_view, written_view, entry_for, history_after, decided_known, decided_view, exchange_of}
+use Rattle.rx_port.specs.Lawful.{IsOlder, placed, IsAttempt, IsKnown, IsView, IsJoined, Lawful, NoneUnmade}
 use Rattle.rx_port.specs.Events.{IsDecision}
 use Rattle.rx_port.proofs.Lists.{at_set, inside_list, some_here, if_some}
 use Rattle.rx_port.proofs.Histories.{older-refl, older-more, count_here, count_there, state_here, state_there, mine_here, mine_there, legal_more}

@@ -1,5 +1,5 @@
 -- Places that all seats own and hold.
-use Rattle.std.proofs.Common.{◌≡◌, ◌≢◌, ℕ, zero, suc, ◌+◌, ◌-◌, ◌<◌, ◌≤◌, List, [], ◌∷◌, length, set, refl, sym, ap, ◌∙◌, subst, arith}
+use Rattle.std.proofs.Common.{◌≡◌, ◌≢◌, ℕ, ◌+◌, ◌-◌, ◌≤◌, List, [], length, set, ap, arith}
 use Rattle.std.specs.Prelude.{slice_index_or}
 use Rattle.std.proofs.lemmas.List.{length-set}
 use mathlib.Core.Option.{some}
@@ -7,7 +7,6 @@ use lib.ListN.{get_elem?}
 use Rattle.rx_shape.specs.Places.{times, total}
 use Rattle.rx_shape.specs.Layout.{Layout, home}
 use Rattle.rx_shape.proofs.Times.{sum_at, sum_two, sum_set}
-use Rattle.rx_port.specs.declared.views.Joined.{Joined}
 use Rattle.rx_port.specs.declared.views.View.{View}
 use Rattle.rx_port.specs.Core.{own_of}
 use Rattle.rx_port.specs.Lawful.{left_of, holds_of, unmade, placed}

@@ -1,6 +1,6 @@
 -- New seats, and the start.
-use Rattle.std.proofs.Common.{◌≡◌, ◌≢◌, ℕ, zero, suc, ◌+◌, ◌-◌, ◌*◌, ◌<◌, ◌≤◌, ◌^◌, true, false, List, [], ◌∷◌, ◌++◌, length, refl, sym, ap, ◌∙◌, subst, ◌⊎◌, inl, inr, ⊎_elim, arith, suc-mul, mul_comm, mul-le-mul_right, add-one, append_assoc, drop, drop-cons}
-use Rattle.std.specs.Prelude.{slice_index, slice_index_or, Option, Some, None, IfSome}
+use Rattle.std.proofs.Common.{◌≡◌, ℕ, zero, suc, ◌+◌, ◌-◌, ◌*◌, ◌<◌, ◌≤◌, true, false, List, [], ◌∷◌, ◌++◌, length, refl, sym, ap, ◌∙◌, subst, ◌⊎◌, inl, inr, ⊎_elim, arith, suc-mul, mul_comm, mul-le-mul_right, add-one, append_assoc, drop, drop-cons}
+use Rattle.std.specs.Prelude.{slice_index, slice_index_or, Option, None, IfSome}
 use Rattle.std.proofs.lemmas.List.{get_or_push, get_or_append_left}
 use mathlib.Core.Option.{some, some-ne-none, some-injective}
 use mathlib.Core.Logic.{dite}
@@ -20,8 +20,7 @@ use Rattle.rx_shape.proofs.Starts.{starts as object_starts}
 use Rattle.rx_port.specs.declared.views.Joined.{Joined}
 use Rattle.rx_port.specs.declared.views.Known.{Known}
 use Rattle.rx_port.specs.declared.views.View.{View}
-use Rattle.rx_port.specs.Core.{own_of}
-use Rattle.rx_port.specs.Lawful.{left_of, holds_of, unmade, placed, IsKnown, OwnsAll, IsView, IsJoined, Lawful}
+use Rattle.rx_port.specs.Lawful.{holds_of, unmade, placed, IsKnown, IsView, IsJoined, Lawful}
 use Rattle.rx_port.specs.Seats.{starts, newcomer, seated}
 
 module _ {A : Type 0} where
@@ -108,8 +107,8 @@ unmade_in h p (suc n) k more =
     let last : suc (suc k + n) * s ≡ suc (k + suc n) * s = ap (λ (m : ℕ). suc m * s) (let e : suc k + n ≡ k + suc n = omega arith in e) in
     let most : suc (suc k) * s ≤ suc (k + suc n) * s = mul-le-mul_right s (let e : suc (suc k) ≤ suc (k + suc n) = omega arith in e) in
     dite (ℕ_discrete (times p (start_own h k)) 0)
-      (λ z. let r = unmade_in h p n (suc k) (omega arith) in (omega arith, omega arith))
-      (λ nz. let r = run_inside p (first_own h k) s (omega arith) in (omega arith, omega arith))
+    (λ z. let r = unmade_in h p n (suc k) (omega arith) in (omega arith, omega arith))
+    (λ nz. let r = run_inside p (first_own h k) s (omega arith) in (omega arith, omega arith))
 
 unmade_once : (h : Home) (p n k : ℕ) → unmade h p n k ≤ 1
 unmade_once h p zero k = omega arith
@@ -119,8 +118,8 @@ unmade_once h p (suc n) k =
     let one = run_once p (first_own h k) s in
     let r = unmade_once h p n (suc k) in
     dite (ℕ_discrete (unmade h p n (suc k)) 0) (λ z. omega arith)
-      (λ nz. dite (ℕ_discrete (times p (start_own h k)) 0) (λ z. omega arith)
-        (λ some_here. let a = unmade_in h p n (suc k) (omega arith) in let b = run_inside p (first_own h k) s (omega arith) in absurd (omega arith)))
+    (λ nz. dite (ℕ_discrete (times p (start_own h k)) 0) (λ z. omega arith)
+    (λ some_here. let a = unmade_in h p n (suc k) (omega arith) in let b = run_inside p (first_own h k) s (omega arith) in absurd (omega arith)))
 
 module _ (l : Layout) (words : List ℕ) (limits : IsLayout l) (start : IsStart l words) where
   none_placed : (o p : ℕ) → o < length l.parts → (times p (live (home l o) (root_of words o) words) + placed l o p [] ≤ 1) × (0 < placed l o p [] → InRange (home l o) p)
@@ -135,7 +134,7 @@ module _ (l : Layout) (words : List ℕ) (limits : IsLayout l) (start : IsStart 
       let none : placed l o p [] ≡ unmade h p l.seats 0 = ap (λ (n : ℕ). 0 + unmade h p n 0) (let e : l.seats - 0 ≡ l.seats = omega arith in e) ∙ omega arith in
       let all : suc (0 + l.seats) * s ≡ s * (l.seats + 1) = ap (λ (m : ℕ). m * s) (let e : suc (0 + l.seats) ≡ l.seats + 1 = omega arith in e) ∙ mul_comm (l.seats + 1) s in (
         dite (ℕ_discrete (unmade h p l.seats 0) 0) (λ z. omega arith)
-          (λ nz. dite (ℕ_discrete (times p (run h.first s)) 0) (λ z. omega arith)
+            (λ nz. dite (ℕ_discrete (times p (run h.first s)) 0) (λ z. omega arith)
             (λ some_here. let a = unmade_in h p l.seats 0 (omega arith) in let b = run_inside p h.first s (omega arith) in absurd (omega arith))),
         λ more. let a = unmade_in h p l.seats 0 (omega arith) in record { from = omega arith; below = omega arith },
       )

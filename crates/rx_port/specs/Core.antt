@@ -1,5 +1,5 @@
 -- Words and seats, and what the four events make of them. Histories are newest first.
-use Rattle.std.specs.Prelude.{ℕ, ◌≡◌, ◌+◌, ◌==◌, if◌then◌else◌, Bool, true, false, List, [], ◌∷◌, ◌++◌, slice_index_or, slice_set, Option, Some, None, option_map}
+use Rattle.std.specs.Prelude.{ℕ, ◌+◌, Bool, true, false, List, [], ◌∷◌, ◌++◌, slice_index_or, slice_set, Some, None, option_map}
 use Rattle.rx_seq.specs.declared.calls.Call.{Call}
 use Rattle.rx_seq.specs.declared.entries.Entry.{Entry}
 use Rattle.rx_seq.specs.History.{tag_of as count_loud, entry_after}

@@ -1,5 +1,5 @@
 -- A bank's seats as plain data, and as contracts see them.
-use Rattle.std.specs.Prelude.{ℕ, ◌≡◌, ◌+◌, ◌≤◌, ◌<◌, ◌^◌, true, List, [], map, slice_index_or, Vec, Option, Some, None, IfSome, option_map}
+use Rattle.std.specs.Prelude.{ℕ, ◌≡◌, ◌+◌, ◌≤◌, ◌^◌, true, List, [], map, slice_index_or, Vec, Option, Some, None, IfSome, option_map}
 use Rattle.std.proofs.Common.{sym, subst}
 use Rattle.std.proofs.Math.Nat.{le_trans, le-add_right, add_assoc}
 use Rattle.std.specs.declared.alloc.Global.{Global}

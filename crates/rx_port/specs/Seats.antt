@@ -1,5 +1,5 @@
 -- The seats of the start.
-use Rattle.std.specs.Prelude.{ℕ, zero, suc, ◌+◌, true, List, [], ◌∷◌, ◌++◌, Option, None}
+use Rattle.std.specs.Prelude.{ℕ, zero, suc, true, List, [], ◌∷◌, ◌++◌, Option, None}
 use Rattle.rx_seq.specs.declared.kinds.Part.{Part}
 use Rattle.rx_shape.specs.Forms.{start_own}
 use Rattle.rx_shape.specs.Layout.{Layout, home}

@@ -40,12 +40,7 @@ fn stock(part: Part) -> u32
 }
 
 /// The places of the start that a seat owns of an object.
-fn own_places(
-    alloc: Global,
-    layout: &Layout,
-    seat: u32,
-    object: u32,
-) -> Result<Vec<u32>, NoMemory>
+fn own_places(alloc: Global, layout: &Layout, seat: u32, object: u32) -> Result<Vec<u32>, NoMemory>
     requires seat { seat < layout.now.seats }
     requires object { object < length layout.now.parts }
     ensures { IfOk result (λ own. own.items ≡ start_own (home layout.now object) seat) }

@@ -1,4 +1,4 @@
-use Rattle.std.proofs.Common.{◌≡◌, ◌+◌, ◌*◌, ◌++◌, [], ◌∷◌, ℕ, List, sym, ap, ◌∙◌}
+use Rattle.std.proofs.Common.{◌+◌, ◌*◌, ◌++◌, [], ◌∷◌, ℕ, List, sym, ap, ◌∙◌}
 use Rattle.rx_port.proofs.Seating.{run_end}
 use Rattle.rx_port.proofs.starts.own_places.Goals as goal
 

@@ -1,4 +1,4 @@
-use Rattle.std.proofs.Common.{◌≡◌, ◌≤◌, [], List, map, sym, subst, arith}
+use Rattle.std.proofs.Common.{[], List, sym, subst, arith}
 use Rattle.rx_port.specs.declared.views.View.{View}
 use Rattle.rx_port.specs.Lawful.{Lawful}
 use Rattle.rx_port.proofs.Seating.{seated_lawful}

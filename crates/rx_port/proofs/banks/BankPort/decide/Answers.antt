@@ -1,13 +1,11 @@
-use Rattle.std.proofs.Common.{ℕ, ◌≡◌, ◌<◌, ◌+◌, List, [], length, set, cond, refl, sym, ap, ◌∙◌, subst, arith}
-use Rattle.std.specs.Prelude.{◌==◌, Some, None}
-use Rattle.rx_shape.specs.declared.plans.Pair.{Pair}
+use Rattle.std.proofs.Common.{ℕ, ◌≡◌, ◌+◌, length, set, sym, ap, ◌∙◌, subst}
+use Rattle.std.specs.Prelude.{◌==◌, None}
 use Rattle.rx_shape.specs.Asks.{EachBelow}
 use Rattle.rx_shape.specs.Layout.{home, root_of}
 use Rattle.rx_shape.proofs.Local.{stock_many}
-use Rattle.rx_port.specs.declared.views.Attempt.{Attempt}
 use Rattle.rx_port.specs.declared.views.View.{View}
 use Rattle.rx_port.specs.Core.{own_of, one_exchange, traded_own}
-use Rattle.rx_port.specs.Plain.{view_of, view_at, plain_core}
+use Rattle.rx_port.specs.Plain.{view_of}
 use Rattle.rx_port.proofs.BankSteps.{decided_from, desk_is, root_read, attempt_is, still_ours}
 use Rattle.rx_port.proofs.banks.BankPort.decide.Goals as goal
 
@@ -31,7 +29,7 @@ invariant_of-self c =
     let desk : view_of c.decide.new.desk ≡ record (view_of c.index_mut-2.result.now) { attempt = None; own = traded_own (c.index-found.result.now == c.requires.ready.attempt.expected) (view_of c.index_mut-2.result.now).own c.requires.ready.attempt.object c.args.trade.now.pairs.items } =
     c.decide.ensures ∙ (λ k. record (view_of c.index_mut-2.result.now) { attempt = None; own = traded_own (c.index-found.result.now == (sym root k)) (view_of c.index_mut-2.result.now).own (sym on k) (c.as_slice.ensures.value k) }) in
     rw (c.exchange.ensures, ← on, ← root) (decided_from c.self.inside.layout c.self.inside.words.items c.self.inside.desks.items c.self.inside.counts c.args.seat.now ours.0 c.self.invariant c.decide.new.desk c.index_mut-2.result.now c.index_mut-2.ensures.value
-      c.requires.ready.attempt c.args.new c.args.trade.now.pairs.items c.index-found.result.now decision (found ∙ ap (root_of c.self.inside.words.items) (sym on)) desk).0
+    c.requires.ready.attempt c.args.new c.args.trade.now.pairs.items c.index-found.result.now decision (found ∙ ap (root_of c.self.inside.words.items) (sym on)) desk).0
 
 pub returns-clause-event : goal.returns-clause-event
 returns-clause-event c attempt open_is =
@@ -45,7 +43,7 @@ returns-clause-event c attempt open_is =
     c.decide.ensures ∙ (λ k. record (view_of c.index_mut-2.result.now) { attempt = None; own = traded_own (c.index-found.result.now == (sym root k)) (view_of c.index_mut-2.result.now).own (sym on k) (c.as_slice.ensures.value k) }) in
     let one : c.requires.ready.attempt ≡ attempt = attempt_is _ c.requires.ready.attempt attempt c.requires.ready.decision.is_open open_is in
     rw (← c.self.view_is, c.exchange.ensures, ← one, ← on, ← root) (decided_from c.self.inside.layout c.self.inside.words.items c.self.inside.desks.items c.self.inside.counts c.args.seat.now ours.0 c.self.invariant c.decide.new.desk c.index_mut-2.result.now c.index_mut-2.ensures.value
-      c.requires.ready.attempt c.args.new c.args.trade.now.pairs.items c.index-found.result.now decision (found ∙ ap (root_of c.self.inside.words.items) (sym on)) desk).1
+    c.requires.ready.attempt c.args.new c.args.trade.now.pairs.items c.index-found.result.now decision (found ∙ ap (root_of c.self.inside.words.items) (sym on)) desk).1
 
 pub returns-clause-ours : goal.returns-clause-ours
 returns-clause-ours c =

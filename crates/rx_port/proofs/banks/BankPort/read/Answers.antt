@@ -1,6 +1,5 @@
-use Rattle.std.proofs.Common.{◌≡◌, refl, sym, ap, ◌∙◌, arith}
+use Rattle.std.proofs.Common.{arith}
 use Rattle.rx_port.specs.Core.{one_load}
-use Rattle.rx_port.specs.Plain.{view_at, plain_core}
 use Rattle.rx_shape.proofs.Numbering.{in_words}
 use Rattle.rx_port.proofs.BankSteps.{read_from, place_read, still_ours}
 use Rattle.rx_port.proofs.banks.BankPort.read.Goals as goal
@@ -20,7 +19,7 @@ invariant_of-self c =
     let is = rw (← c.self.view_is) at c.requires.open.is in
     let word = place_read c.self.inside.layout c.self.inside.words.items _ c.self.invariant.history c.args.object c.args.place _ c.self.invariant.lawful exists range c.index-word.ensures in
     (read_from c.self.inside.layout c.self.inside.words.items c.self.inside.desks.items c.self.inside.counts c.args.seat.now ours.0 c.self.invariant c.read.new.desk c.index_mut.result.now c.index_mut.ensures.value
-      c.requires.open.attempt c.args.place c.index-word.result.now is word c.read.ensures).0
+    c.requires.open.attempt c.args.place c.index-word.result.now is word c.read.ensures).0
 
 pub returns-clause-event : goal.returns-clause-event
 returns-clause-event c attempt open_is =
@@ -30,7 +29,7 @@ returns-clause-event c attempt open_is =
     let is = rw (← c.self.view_is) at open_is in
     let word = place_read c.self.inside.layout c.self.inside.words.items _ c.self.invariant.history c.args.object c.args.place _ c.self.invariant.lawful exists range c.index-word.ensures in
     rw (← c.self.view_is) (read_from c.self.inside.layout c.self.inside.words.items c.self.inside.desks.items c.self.inside.counts c.args.seat.now ours.0 c.self.invariant c.read.new.desk c.index_mut.result.now c.index_mut.ensures.value
-      attempt c.args.place c.index-word.result.now is word c.read.ensures).1
+    attempt c.args.place c.index-word.result.now is word c.read.ensures).1
 
 pub returns-clause-ours : goal.returns-clause-ours
 returns-clause-ours c =

@@ -1,8 +1,7 @@
-use Rattle.std.proofs.Common.{ℕ, ◌≡◌, ◌<◌, length, set, refl, sym, ap, ◌∙◌, subst, arith}
+use Rattle.std.proofs.Common.{ℕ, ◌≡◌, ◌<◌, length, set, sym, ap, ◌∙◌, subst, arith}
 use Rattle.std.specs.Prelude.{slice_index}
 use Rattle.rx_seq.specs.History.{part_at}
 use Rattle.rx_shape.specs.Forms.{stock_size}
-use Rattle.rx_port.specs.declared.views.Attempt.{Attempt}
 use Rattle.rx_port.specs.declared.views.View.{View}
 use Rattle.rx_port.specs.Core.{own_of, one_store}
 use Rattle.rx_port.specs.Plain.{view_at, plain_core}
@@ -16,7 +15,7 @@ place_at-place-requires-clause-number c =
     let below = rw (← c.self.view_is) at c.requires.open.below in
     let same = desk_is c.self.inside.layout c.self.inside.words.items c.self.inside.desks.items c.self.inside.counts c.args.seat.now ours.0 c.index.result.now c.index.ensures in
     subst (λ (v : View). c.args.own < length (own_of v c.args.object)) (sym same)
-      (own_in_words c.self.inside.layout (view_at (plain_core c.self.inside.words.items c.self.inside.desks.items c.self.inside.counts) c.args.seat.now) c.args.object c.args.own ours.2 exists below).0
+    (own_in_words c.self.inside.layout (view_at (plain_core c.self.inside.words.items c.self.inside.desks.items c.self.inside.counts) c.args.seat.now) c.args.object c.args.own ours.2 exists below).0
 
 pub index_mut-requires : goal.index_mut-requires
 index_mut-requires c =
@@ -40,7 +39,7 @@ invariant_of-self c =
     c.place_at-place.ensures ∙ ap (λ (v : View). slice_index (own_of v c.args.object) c.args.own) same
     ∙ ap (λ (n : ℕ). slice_index (own_of (view_at (plain_core c.self.inside.words.items c.self.inside.desks.items c.self.inside.counts) c.args.seat.now) n) c.args.own) (sym on) in
     (wrote_from c.self.inside.layout c.self.inside.words.items c.self.inside.desks.items c.self.inside.counts c.args.seat.now ours.0 c.self.invariant c.write.new.desk c.index_mut-2.result.now c.index_mut-2.ensures.value
-      c.requires.open.attempt c.args.own c.args.value c.place_at-place.result is (subst (λ (n : ℕ). c.args.own < stock_size (part_at c.self.inside.layout.parts n)) (sym on) below) c.requires.open.new place c.write.ensures).0
+    c.requires.open.attempt c.args.own c.args.value c.place_at-place.result is (subst (λ (n : ℕ). c.args.own < stock_size (part_at c.self.inside.layout.parts n)) (sym on) below) c.requires.open.new place c.write.ensures).0
 
 pub returns-clause-event : goal.returns-clause-event
 returns-clause-event c attempt open_is =
@@ -54,7 +53,7 @@ returns-clause-event c attempt open_is =
     ∙ ap (λ (n : ℕ). slice_index (own_of (view_at (plain_core c.self.inside.words.items c.self.inside.desks.items c.self.inside.counts) c.args.seat.now) n) c.args.own) (sym on) in
     let one : c.requires.open.attempt ≡ attempt = attempt_is _ c.requires.open.attempt attempt c.requires.open.is open_is in
     rw (← c.self.view_is, ← one) (wrote_from c.self.inside.layout c.self.inside.words.items c.self.inside.desks.items c.self.inside.counts c.args.seat.now ours.0 c.self.invariant c.write.new.desk c.index_mut-2.result.now c.index_mut-2.ensures.value
-      c.requires.open.attempt c.args.own c.args.value c.place_at-place.result is (subst (λ (n : ℕ). c.args.own < stock_size (part_at c.self.inside.layout.parts n)) (sym on) below) c.requires.open.new place c.write.ensures).1
+    c.requires.open.attempt c.args.own c.args.value c.place_at-place.result is (subst (λ (n : ℕ). c.args.own < stock_size (part_at c.self.inside.layout.parts n)) (sym on) below) c.requires.open.new place c.write.ensures).1
 
 pub returns-clause-ours : goal.returns-clause-ours
 returns-clause-ours c =
