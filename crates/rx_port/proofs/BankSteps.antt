@@ -186,3 +186,11 @@ place_read l words views es o p r h there in_range e = get_or_read words p r (le
 -- a seat has one open attempt
 pub attempt_is : (x : Option Attempt) (a b : Attempt) → x ≡ Some a → x ≡ Some b → a ≡ b
 attempt_is x a b e d = cc
+
+-- each seat of a bank is one of its seats
+pub ours_from : (l : Layout) (words : List ℕ) (desks : List Desk) (counts : Counts) (es : List Entry) (i : ℕ) → Lawful l words (map view_of desks) es → i < length (map view_of desks)
+    → (i < length (map view_of desks)) × IsPlain (plain_core words desks counts) × OwnsWell l (view_at (plain_core words desks counts) i)
+ours_from l words desks counts es i h at =
+    let there = here_or (map view_of desks) i nobody at in
+    let v : View = view_at (plain_core words desks counts) i in
+    (at, is_plain desks, owns_from l words (map view_of desks) es i v h (is_live desks i v there) there)

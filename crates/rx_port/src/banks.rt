@@ -10,7 +10,7 @@ ghost use Rattle.rx_shape.specs.Forms.{decoded};
 ghost use Rattle.rx_shape.specs.Layout.{home, root_of};
 ghost use Rattle.rx_shape.specs.Start.{IsStart};
 ghost use Rattle.rx_shape.specs.Words.{tag_of as tag_in};
-ghost use Rattle.std.specs.Prelude.{◌≡◌, ◌<◌, ◌==◌, if◌then◌else◌, IfOk, List, [], Some, length};
+ghost use Rattle.std.specs.Prelude.{ℕ, ◌≡◌, ◌<◌, ◌==◌, if◌then◌else◌, IfOk, List, [], Some, length};
 
 use crate::desks;
 use crate::desks::Desk;
@@ -53,6 +53,7 @@ impl Bank {
         ensures seats { IfOk result (λ bank. bank.core.views ≡ seated layout layout.seats) }
         ensures words { IfOk result (λ bank. IsStart layout bank.core.words) }
         ensures lawful { IfOk result (λ bank. Lawful layout bank.core.words bank.core.views []) }
+        ensures ours { IfOk result (λ bank. (seat : ℕ) → seat < layout.seats → (seat < length bank.core.views) × IsPlain bank.core × OwnsWell layout (view_at bank.core seat)) }
     {
         let _parts = layout.parts();
         let words = start_words(alloc, &layout)?;
