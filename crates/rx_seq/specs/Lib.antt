@@ -1,5 +1,6 @@
 pub mod Table
 pub mod History
+pub mod Legal
 pub mod States
 pub mod Places
 pub mod Rows

@@ -1,0 +1,23 @@
+use Rattle.std.proofs.Common.{[], List, sym, subst, arith, ap, ◌∙◌, length}
+use Rattle.rx_port.specs.declared.views.View.{View}
+use Rattle.rx_port.specs.Lawful.{Lawful}
+use Rattle.rx_port.proofs.Seating.{seated_lawful, length-seated}
+use Rattle.rx_port.proofs.BankSteps.{ours_from}
+use Rattle.rx_port.proofs.banks.Bank.new.Goals as goal
+
+pub returns-clause-lawful : goal.returns-clause-lawful
+returns-clause-lawful c = subst (λ (views : List View). Lawful c.args.layout c.in_ok-words.words.items views []) (sym c.in_ok-desks.ensures)
+    (seated_lawful c.args.layout c.in_ok-words.words.items c.parts-parts.ensures.limits c.in_ok-words.ensures c.args.layout.seats (omega arith))
+
+pub invariant_of-result : goal.invariant_of-result
+invariant_of-result c = record {
+  limits = c.parts-parts.ensures.limits;
+  history = [];
+  lawful = subst (λ (views : List View). Lawful c.args.layout c.in_ok-words.words.items views []) (sym c.in_ok-desks.ensures)
+      (seated_lawful c.args.layout c.in_ok-words.words.items c.parts-parts.ensures.limits c.in_ok-words.ensures c.args.layout.seats (omega arith));
+}
+
+pub returns-clause-ours : goal.returns-clause-ours
+returns-clause-ours c seat below =
+    let many = ap length c.in_ok-desks.ensures ∙ length-seated c.args.layout c.in_ok-words.words.items c.parts-parts.ensures.limits c.in_ok-words.ensures c.args.layout.seats in
+    ours_from c.args.layout c.in_ok-words.words.items c.in_ok-desks.desks.items c.default.result [] seat (returns-clause-lawful c) (omega arith)

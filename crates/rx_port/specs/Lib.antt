@@ -1,0 +1,5 @@
+pub mod Core
+pub mod Lawful
+pub mod Events
+pub mod Plain
+pub mod Seats

@@ -1,0 +1,73 @@
+-- A bank's seats as plain data, and as contracts see them.
+use Rattle.std.specs.Prelude.{ℕ, ◌≡◌, ◌+◌, ◌≤◌, ◌^◌, true, List, [], map, slice_index_or, Vec, Option, Some, None, IfSome, option_map}
+use Rattle.std.proofs.Common.{sym, subst}
+use Rattle.std.proofs.Math.Nat.{le_trans, le-add_right, add_assoc}
+use Rattle.std.specs.declared.alloc.Global.{Global}
+use mathlib.Core.Option.{some}
+use lib.ListN.{get_elem?}
+use Rattle.rx_seq.specs.declared.entries.Entry.{Entry}
+use Rattle.rx_shape.specs.declared.plans.Taken.{Taken}
+use Rattle.rx_shape.specs.declared.plans.Write.{Write}
+use Rattle.rx_shape.specs.Layout.{Layout, IsLayout}
+use Rattle.rx_port.specs.declared.views.Counts.{Counts}
+use Rattle.rx_port.specs.declared.views.Attempt.{Attempt}
+use Rattle.rx_port.specs.declared.views.View.{View}
+use Rattle.rx_port.specs.declared.views.Core.{Core}
+use Rattle.rx_port.specs.declared.desks.Opened.{Opened}
+use Rattle.rx_port.specs.declared.desks.Desk.{Desk}
+use Rattle.rx_port.specs.Lawful.{Lawful}
+
+abbrev pub lists : List (Vec ℕ Global) → List (List ℕ)
+lists own = map (λ (places : Vec ℕ Global). places.items) own
+
+abbrev pub attempt_of : List Taken → List Write → Opened → Attempt
+attempt_of reads writes opened = record { object = opened.object; call = opened.call; expected = opened.expected; reads = reads; writes = writes }
+
+-- a seat, which keeps no histories
+abbrev pub view_of : Desk → View
+view_of desk = record { number = desk.number; next = None; live = true; attempt = option_map (attempt_of desk.reads.items desk.writes.items) desk.open; own = lists desk.own.items; joined = []; known = None }
+
+abbrev pub plain_core : List ℕ → List Desk → Counts → Core
+plain_core words desks counts = record { words = words; views = map view_of desks; counts = Some counts }
+
+abbrev pub nobody : View
+nobody = record { number = 0; next = None; live = true; attempt = None; own = []; joined = []; known = None }
+
+abbrev pub view_at : Core → ℕ → View
+view_at core seat = slice_index_or core.views seat nobody
+
+-- a bank: what its words stand for, and its words, seats and counts
+pub record Whole : Type 0 where
+  pub layout : Layout
+  pub core : Core
+
+abbrev pub whole_of : Layout → List ℕ → List Desk → Counts → Whole
+whole_of layout words desks counts = record { layout = layout; core = plain_core words desks counts }
+
+-- it is lawful for some history
+pub record IsBank (whole : Whole) : Type 0 where
+  pub limits : IsLayout whole.layout
+  pub history : List Entry
+  pub lawful : Lawful whole.layout whole.core.words whole.core.views history
+
+-- no seat keeps histories
+abbrev pub IsPlain : Core → Type 0
+IsPlain core = (seat : ℕ) (view : View) → get_elem? core.views seat ≡ some view → view.known ≡ None
+
+-- so many more events have room in the counts
+abbrev pub HasRoomIn : ℕ → Counts → Type 0
+HasRoomIn n counts = (counts.loads + n ≤ 2 ^ 63) × (counts.stores + n ≤ 2 ^ 63) × (counts.exchanges + n ≤ 2 ^ 63)
+
+abbrev pub HasRoom : ℕ → Core → Type 0
+HasRoom n core = IfSome core.counts (HasRoomIn n)
+
+-- where more events have room, fewer have
+less : (n most count : ℕ) → count + (n + 1) ≤ most → count + n ≤ most
+less n most count h = le_trans (le-add_right (count + n) 1) (subst (λ (m : ℕ). m ≤ most) (sym (add_assoc count n 1)) h)
+
+less_counts : (n : ℕ) (counts : Option Counts) → IfSome counts (HasRoomIn (n + 1)) → IfSome counts (HasRoomIn n)
+less_counts n None h = tt
+less_counts n (Some counts) h = (less n (2 ^ 63) counts.loads h.0, less n (2 ^ 63) counts.stores h.1, less n (2 ^ 63) counts.exchanges h.2)
+
+pub less_room : (n : ℕ) (core : Core) → HasRoom (n + 1) core → HasRoom n core
+less_room n core h = less_counts n core.counts h

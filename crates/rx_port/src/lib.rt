@@ -1,0 +1,15 @@
+//! The four memory events of an attempt, as one trait, and the plain bank that implements it. What an event makes of the
+//! words and the seats is `specs/Core.antt`, and what always holds of them `specs/Lawful.antt`.
+#![tactic(auto)]
+
+mod banks;
+mod desks;
+pub mod laws;
+mod ports;
+mod starts;
+mod trades;
+mod views;
+
+pub use banks::Bank;
+pub use ports::Port;
+pub use views::{Attempt, Core, Counts, Exchange, Joined, Known, View};

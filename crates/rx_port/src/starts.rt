@@ -1,0 +1,96 @@
+// The words and the seats of the start.
+ghost use Rattle.rx_port.specs.Plain.{lists, view_of};
+ghost use Rattle.rx_port.specs.Seats.{seated, starts};
+ghost use Rattle.rx_seq.specs.Table.{IsPart};
+ghost use Rattle.rx_shape.specs.Forms.{start_own, stock_size};
+ghost use Rattle.rx_shape.specs.Layout.{home};
+ghost use Rattle.rx_shape.specs.Start.{IsStart};
+ghost use Rattle.std.specs.Prelude.{◌≡◌, ◌≤◌, ◌<◌, IfOk, length, map};
+
+use crate::desks::Desk;
+use arrayvec::ArrayVec;
+use rx_seq::{Kind, NoMemory, Part};
+use rx_shape::Layout;
+use std::alloc::Global;
+
+/// The words of the start. It takes time that grows with the number of words times the number of objects.
+pub fn start_words(alloc: Global, layout: &Layout) -> Result<Vec<u64>, NoMemory>
+    ensures { IfOk result (λ words. IsStart layout.now words.items) }
+{
+    let mut words = Vec::new(alloc);
+    for word in 0..layout.words() {
+        match words.push(layout.start_word(word)) {
+            Ok(()) => {}
+            Err(_) => return Err(NoMemory),
+        }
+    }
+    Ok(words)
+}
+
+/// How many places a seat owns of an object of this part.
+fn stock(part: Part) -> u32
+    requires { IsPart part }
+    ensures value { result ≡ stock_size part }
+    ensures bound { result ≤ 65 }
+{
+    match part.kind {
+        Kind::Cell => 0,
+        _ => part.cap + 1,
+    }
+}
+
+/// The places of the start that a seat owns of an object.
+fn own_places(alloc: Global, layout: &Layout, seat: u32, object: u32) -> Result<Vec<u32>, NoMemory>
+    requires seat { seat < layout.now.seats }
+    requires object { object < length layout.now.parts }
+    ensures { IfOk result (λ own. own.items ≡ start_own (home layout.now object) seat) }
+{
+    let count = stock(layout.parts()[object as usize]);
+    let first = layout.first_place(object) + (seat + 1) * count;
+    let mut own = Vec::new(alloc);
+    for number in 0..count {
+        match own.push(first + number) {
+            Ok(()) => {}
+            Err(_) => return Err(NoMemory),
+        }
+    }
+    Ok(own)
+}
+
+/// The places of the start that a seat owns, for each object.
+fn own_of_seat(alloc: Global, layout: &Layout, seat: u32) -> Result<Vec<Vec<u32>>, NoMemory>
+    requires { seat < layout.now.seats }
+    ensures { IfOk result (λ own. lists own.items ≡ starts layout.now seat 0 layout.now.parts) }
+{
+    let mut own = Vec::new(alloc);
+    for object in 0..layout.parts().len() {
+        let places = own_places(alloc, layout, seat, object as u32)?;
+        match own.push(places) {
+            Ok(()) => {}
+            Err(_) => return Err(NoMemory),
+        }
+    }
+    Ok(own)
+}
+
+/// The seats of the start, in order.
+pub fn start_desks(alloc: Global, layout: &Layout) -> Result<Vec<Desk>, NoMemory>
+    ensures { IfOk result (λ desks. map view_of desks.items ≡ seated layout.now layout.now.seats) }
+{
+    let mut desks = Vec::new(alloc);
+    for seat in 0..layout.seats() {
+        let own = own_of_seat(alloc, layout, seat)?;
+        let desk = Desk {
+            number: seat,
+            open: None,
+            reads: ArrayVec::new(),
+            writes: ArrayVec::new(),
+            own,
+        };
+        match desks.push(desk) {
+            Ok(()) => {}
+            Err(_) => return Err(NoMemory),
+        }
+    }
+    Ok(desks)
+}
