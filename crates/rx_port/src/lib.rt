@@ -7,6 +7,8 @@ mod desks;
 pub mod laws;
 mod ports;
 mod starts;
+#[cfg(test)]
+mod tests;
 mod trades;
 mod views;
 
