@@ -1,9 +1,9 @@
 -- A call that fits makes a state of a state.
-use Rattle.std.proofs.Common.{ℕ, suc, ◌≡◌, ◌≤◌, ◌<◌, ◌+◌, ◌-◌, true, not, eqb, ltb, leb, List, [], ◌∷◌, length, get_or, set, take, refl, ◌∙◌, inl, inr, arith, Option, Some, None}
-use Rattle.std.specs.List.{All}
+use Rattle.std.proofs.Common.{ℕ, suc, ◌≡◌, ◌≤◌, ◌<◌, ◌+◌, ◌-◌, true, not, eqb, ltb, leb, List, [], ◌∷◌, length, ◌&&◌, get_or, set, map, take, drop, refl, ◌∙◌, inl, inr, arith, Option, Some, None}
+use Rattle.std.specs.List.{All, list_all}
 use Rattle.std.proofs.lemmas.Bool.{ltb-false, leb-true, eqb-true, eqb-false, and_parts, cases_Bool, cases_lt}
 use Rattle.std.proofs.lemmas.List.{length_push, length-set, length-replicate, get_or_past}
-use Rattle.std.proofs.lemmas.List.Elements.{All-nil, All-replicate, All-from_get_or, All-get_or, All-head, All-tail, All-push, All-set, All-take, All-filter}
+use Rattle.std.proofs.lemmas.List.Elements.{All-nil, All-replicate, All-from_get_or, All-get_or, All-head, All-tail, All-push, All-set, All-filter}
 use Rattle.std.proofs.lemmas.List.Kept.{AllPairs-filter}
 use Rattle.std.proofs.lemmas.List.Filters.{length-filter_both}
 use Rattle.rx_seq.specs.declared.kinds.Kind.{Kind}
@@ -13,9 +13,9 @@ use Rattle.rx_seq.specs.declared.calls.Row.{Row}
 use Rattle.rx_seq.specs.declared.calls.Call.{Call}
 use Rattle.rx_seq.specs.declared.calls.Call.TheVariants.{Get, Set, Add, Swap, Put, Take, Insert, Remove, Has, Read, Shift, Multi}
 use Rattle.rx_seq.specs.declared.entries.Entry.{Entry}
-use Rattle.rx_seq.specs.Table.{are_rows, most_cell, most_value, IsCap, IsPart, start_by, fits_cell, fits_queue, fits_list, fits_registers, fits_by, fits_part, has_number, with_rows, transaction, shifted, taken, first_difference, effect_by, effect}
+use Rattle.rx_seq.specs.Table.{are_rows, is_row, have_repeat, register_of, is_blank, most_cell, most_value, IsCap, IsPart, start_by, fits_cell, fits_queue, fits_list, fits_registers, fits_by, fits_part, has_number, with_rows, transaction, shifted, taken, first_difference, effect_by, effect}
 use Rattle.rx_seq.specs.History.{part_at, replay}
-use Rattle.rx_seq.specs.States.{IsValue, IsCell, IsQueue, IsOrdered, IsRegisters, IsStateBy, IsState, IsRow, IsCall, IsFitting}
+use Rattle.rx_seq.specs.States.{IsValue, IsCell, IsQueue, IsOrdered, IsRegisters, IsStateBy, IsState, IsFitting}
 use Rattle.rx_seq.proofs.Ordered.{All-with_number, length-with_number, rises-with_number}
 
 -- a cell
@@ -54,19 +54,19 @@ pub take_kept : (cap : ℕ) (state : List ℕ) → IsQueue cap state → IsQueue
 take_kept cap [] is = is
 take_kept cap (n ∷ ns) is = let room : suc (length ns) ≤ cap = is.room in record { room = omega arith; values = All-tail IsValue n ns is.values }
 
-pub queue_kept : (cap : ℕ) (state : List ℕ) (call : Call) → IsQueue cap state → fits_queue call ≡ true → IsCall call → IsQueue cap (effect_by cap state call).state
-queue_kept cap state Get is fits numbers = cc
-queue_kept cap state (Set v) is fits numbers = cc
-queue_kept cap state (Add v) is fits numbers = cc
-queue_kept cap state (Swap old new) is fits numbers = cc
-queue_kept cap state (Put v) is fits numbers = put_kept cap state v is numbers
-queue_kept cap state Take is fits numbers = take_kept cap state is
-queue_kept cap state (Insert k) is fits numbers = cc
-queue_kept cap state (Remove k) is fits numbers = cc
-queue_kept cap state (Has k) is fits numbers = cc
-queue_kept cap state (Read i) is fits numbers = cc
-queue_kept cap state (Shift from to n) is fits numbers = cc
-queue_kept cap state (Multi count rows) is fits numbers = cc
+pub queue_kept : (cap : ℕ) (state : List ℕ) (call : Call) → IsQueue cap state → fits_queue call ≡ true → IsQueue cap (effect_by cap state call).state
+queue_kept cap state Get is fits = cc
+queue_kept cap state (Set v) is fits = cc
+queue_kept cap state (Add v) is fits = cc
+queue_kept cap state (Swap old new) is fits = cc
+queue_kept cap state (Put v) is fits = put_kept cap state v is (leb-true v most_value fits)
+queue_kept cap state Take is fits = take_kept cap state is
+queue_kept cap state (Insert k) is fits = cc
+queue_kept cap state (Remove k) is fits = cc
+queue_kept cap state (Has k) is fits = cc
+queue_kept cap state (Read i) is fits = cc
+queue_kept cap state (Shift from to n) is fits = cc
+queue_kept cap state (Multi count rows) is fits = cc
 
 -- an ordered list
 pub insert_kept : (cap : ℕ) (state : List ℕ) (k : ℕ) → IsOrdered cap state → IsValue k → IsOrdered cap (effect_by cap state (Insert k)).state
@@ -94,19 +94,19 @@ remove_kept cap state k is = elim (cases_Bool (has_number k state)) [
   | inr e ↦ rw e is
 ]
 
-pub list_kept : (cap : ℕ) (state : List ℕ) (call : Call) → IsOrdered cap state → fits_list call ≡ true → IsCall call → IsOrdered cap (effect_by cap state call).state
-list_kept cap state Get is fits numbers = cc
-list_kept cap state (Set v) is fits numbers = cc
-list_kept cap state (Add v) is fits numbers = cc
-list_kept cap state (Swap old new) is fits numbers = cc
-list_kept cap state (Put v) is fits numbers = cc
-list_kept cap state Take is fits numbers = cc
-list_kept cap state (Insert k) is fits numbers = insert_kept cap state k is numbers
-list_kept cap state (Remove k) is fits numbers = remove_kept cap state k is
-list_kept cap state (Has k) is fits numbers = is
-list_kept cap state (Read i) is fits numbers = cc
-list_kept cap state (Shift from to n) is fits numbers = cc
-list_kept cap state (Multi count rows) is fits numbers = cc
+pub list_kept : (cap : ℕ) (state : List ℕ) (call : Call) → IsOrdered cap state → fits_list call ≡ true → IsOrdered cap (effect_by cap state call).state
+list_kept cap state Get is fits = cc
+list_kept cap state (Set v) is fits = cc
+list_kept cap state (Add v) is fits = cc
+list_kept cap state (Swap old new) is fits = cc
+list_kept cap state (Put v) is fits = cc
+list_kept cap state Take is fits = cc
+list_kept cap state (Insert k) is fits = insert_kept cap state k is (leb-true k most_value fits)
+list_kept cap state (Remove k) is fits = remove_kept cap state k is
+list_kept cap state (Has k) is fits = is
+list_kept cap state (Read i) is fits = cc
+list_kept cap state (Shift from to n) is fits = cc
+list_kept cap state (Multi count rows) is fits = cc
 
 -- registers
 pub value_at : (state : List ℕ) (i : ℕ) → All IsValue state → get_or state i 0 ≤ most_value
@@ -130,39 +130,49 @@ shift_kept cap state from to n is =
       ])
     ]
 
-pub rows_kept : (cap : ℕ) (state : List ℕ) (rows : List Row) → IsRegisters cap state → All IsRow rows → IsRegisters cap (with_rows state rows)
+new_kept : (cap : ℕ) (row : Row) → is_row cap row ≡ true → IsValue row.new
+new_kept cap row h = leb-true row.new most_value (and_parts (ltb row.i cap && leb row.old most_value) (leb row.new most_value) h).1
+
+pub rows_kept : (cap : ℕ) (state : List ℕ) (rows : List Row) → IsRegisters cap state → list_all (is_row cap) rows ≡ true → IsRegisters cap (with_rows state rows)
 rows_kept cap state [] is all = is
 rows_kept cap state (row ∷ rows) is all =
-    rows_kept cap (set state row.i row.new) rows (set_kept cap state row.i row.new is (All-head IsRow row rows all).new) (All-tail IsRow row rows all)
+    rows_kept cap (set state row.i row.new) rows (set_kept cap state row.i row.new is (new_kept cap row (and_parts _ _ all).0)) (and_parts _ _ all).1
 
-pub transaction_kept : (cap : ℕ) (state : List ℕ) (count : ℕ) (rows : List Row) (found : Option ℕ) → IsRegisters cap state → All IsRow rows → IsRegisters cap (transaction state count rows found).state
+pub transaction_kept : (cap : ℕ) (state : List ℕ) (count : ℕ) (rows : List Row) (found : Option ℕ) → IsRegisters cap state → list_all (is_row cap) rows ≡ true → IsRegisters cap (transaction state count rows found).state
 transaction_kept cap state count rows (Some v) is all = is
 transaction_kept cap state count rows None is all = rows_kept cap state rows is all
 
-pub registers_kept : (cap : ℕ) (state : List ℕ) (call : Call) → IsRegisters cap state → fits_registers cap call ≡ true → IsCall call → IsRegisters cap (effect_by cap state call).state
-registers_kept cap state Get is fits numbers = cc
-registers_kept cap state (Set v) is fits numbers = cc
-registers_kept cap state (Add v) is fits numbers = cc
-registers_kept cap state (Swap old new) is fits numbers = cc
-registers_kept cap state (Put v) is fits numbers = cc
-registers_kept cap state Take is fits numbers = cc
-registers_kept cap state (Insert k) is fits numbers = cc
-registers_kept cap state (Remove k) is fits numbers = cc
-registers_kept cap state (Has k) is fits numbers = cc
-registers_kept cap state (Read i) is fits numbers = is
-registers_kept cap state (Shift from to n) is fits numbers = shift_kept cap state from to n is
-registers_kept cap state (Multi count rows) is fits numbers =
-    transaction_kept cap state count (take count rows) (first_difference state (take count rows)) is (All-take IsRow count rows numbers.1)
+-- the rows of a transaction that fits
+named_rows : (cap count : ℕ) (rows : List Row) → are_rows cap count rows ≡ true → list_all (is_row cap) (take count rows) ≡ true
+named_rows cap count rows fits =
+    let limits = leb 1 count && leb count 4 in let named = list_all (is_row cap) (take count rows) in
+    let apart = not (have_repeat (map register_of (take count rows))) in
+    (and_parts limits named (and_parts (limits && named) apart (and_parts (limits && named && apart) (list_all is_blank (drop count rows)) fits).0).0).1
+
+pub registers_kept : (cap : ℕ) (state : List ℕ) (call : Call) → IsRegisters cap state → fits_registers cap call ≡ true → IsRegisters cap (effect_by cap state call).state
+registers_kept cap state Get is fits = cc
+registers_kept cap state (Set v) is fits = cc
+registers_kept cap state (Add v) is fits = cc
+registers_kept cap state (Swap old new) is fits = cc
+registers_kept cap state (Put v) is fits = cc
+registers_kept cap state Take is fits = cc
+registers_kept cap state (Insert k) is fits = cc
+registers_kept cap state (Remove k) is fits = cc
+registers_kept cap state (Has k) is fits = cc
+registers_kept cap state (Read i) is fits = is
+registers_kept cap state (Shift from to n) is fits = shift_kept cap state from to n is
+registers_kept cap state (Multi count rows) is fits =
+    transaction_kept cap state count (take count rows) (first_difference state (take count rows)) is (named_rows cap count rows fits)
 
 -- every kind
-pub kept_by : (kind : Kind) (cap : ℕ) (state : List ℕ) (call : Call) → IsStateBy kind cap state → fits_by kind cap call ≡ true → IsCall call → IsStateBy kind cap (effect_by cap state call).state
-kept_by Cell cap state call is fits numbers = cell_kept cap state call is fits
-kept_by Queue cap state call is fits numbers = queue_kept cap state call is fits numbers
-kept_by Ordered cap state call is fits numbers = list_kept cap state call is fits numbers
-kept_by Registers cap state call is fits numbers = registers_kept cap state call is fits numbers
+pub kept_by : (kind : Kind) (cap : ℕ) (state : List ℕ) (call : Call) → IsStateBy kind cap state → fits_by kind cap call ≡ true → IsStateBy kind cap (effect_by cap state call).state
+kept_by Cell cap state call is fits = cell_kept cap state call is fits
+kept_by Queue cap state call is fits = queue_kept cap state call is fits
+kept_by Ordered cap state call is fits = list_kept cap state call is fits
+kept_by Registers cap state call is fits = registers_kept cap state call is fits
 
-pub state_kept : (part : Part) (state : List ℕ) (call : Call) → IsState part state → fits_part part call ≡ true → IsCall call → IsState part (effect part state call).state
-state_kept part state call is fits numbers = kept_by part.kind part.cap state call is fits numbers
+pub state_kept : (part : Part) (state : List ℕ) (call : Call) → IsState part state → fits_part part call ≡ true → IsState part (effect part state call).state
+state_kept part state call is fits = kept_by part.kind part.cap state call is fits
 
 pub start_kept : (kind : Kind) (cap : ℕ) → IsCap kind cap → IsStateBy kind cap (start_by kind cap)
 start_kept Cell cap is = one_number 0 (omega arith)
@@ -178,7 +188,7 @@ replay_kept parts object (entry ∷ before) is all =
     let fits = All-head (IsFitting parts) entry before all in
     elim (cases_Bool (eqb object entry.object)) [
       | inl e ↦ let same = eqb-true object entry.object e in
-          rw e (state_kept (part_at parts object) (replay parts object before) entry.call so_far (rw same fits.fits) fits.numbers)
+          rw e (state_kept (part_at parts object) (replay parts object before) entry.call so_far (rw same fits.fits))
       | inr e ↦ rw e so_far
     ]
 

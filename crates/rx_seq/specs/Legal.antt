@@ -1,4 +1,4 @@
--- Legal histories: the tags of an object rise by one from the first one on, and each reply is the table's.
+-- Legal histories: the n-th entry on an object has the first tag plus n, and each reply is the table's.
 use Rattle.std.specs.Prelude.{ℕ, ◌≡◌, ◌+◌, ◌==◌, if◌then◌else◌, List, [], ◌∷◌}
 use Rattle.rx_seq.specs.declared.kinds.Part.{Part}
 use Rattle.rx_seq.specs.declared.entries.Entry.{Entry}

@@ -1,12 +1,11 @@
--- The states of a part, and the calls whose numbers are in range.
+-- The states of a part, and the entries whose calls fit.
 use Rattle.std.specs.Prelude.{ℕ, ◌≡◌, ◌<◌, ◌≤◌, Bool, true, false, List, length, slice_index}
 use Rattle.std.specs.List.{All, AllPairs}
 use Rattle.rx_seq.specs.declared.kinds.Kind.{Kind}
 use Rattle.rx_seq.specs.declared.kinds.Kind.TheVariants.{Cell, Queue, Registers, List as Ordered}
 use Rattle.rx_seq.specs.declared.kinds.Part.{Part}
-use Rattle.rx_seq.specs.declared.calls.Row.{Row}
 use Rattle.rx_seq.specs.declared.calls.Call.{Call}
-use Rattle.rx_seq.specs.declared.calls.Call.TheVariants.{Get, Set, Add, Swap, Put, Take, Insert, Remove, Has, Read, Shift, Multi}
+use Rattle.rx_seq.specs.declared.calls.Call.TheVariants.{Get, Has, Read}
 use Rattle.rx_seq.specs.declared.replies.Reply.{Reply}
 use Rattle.rx_seq.specs.declared.replies.Reply.TheVariants.{Over, Differs, Full, Empty, Present, Absent, Yes, No, Short}
 use Rattle.rx_seq.specs.declared.entries.Entry.{Entry}
@@ -48,30 +47,10 @@ IsStateBy Registers cap state = IsRegisters cap state
 abbrev pub IsState : Part → List ℕ → Type 0
 IsState part state = IsStateBy part.kind part.cap state
 
--- the numbers of a row, and those of a call, have at most 32 bits
-pub record IsRow (row : Row) : Type 0 where
-  pub i : IsValue row.i
-  pub old : IsValue row.old
-  pub new : IsValue row.new
-
-abbrev pub IsCall : Call → Type 0
-IsCall Get = Unit {0}
-IsCall (Set v) = IsValue v
-IsCall (Add v) = IsValue v
-IsCall (Swap old new) = IsValue old × IsValue new
-IsCall (Put v) = IsValue v
-IsCall Take = Unit {0}
-IsCall (Insert k) = IsValue k
-IsCall (Remove k) = IsValue k
-IsCall (Has k) = IsValue k
-IsCall (Read i) = IsValue i
-IsCall (Shift from to n) = IsValue from × IsValue to × IsValue n
-IsCall (Multi count rows) = IsValue count × All IsRow rows
-
--- the call of an entry fits the object that it names
+-- an entry names an object that is there, and its call fits it
 pub record IsFitting (parts : List Part) (entry : Entry) : Type 0 where
+  pub exists : entry.object < length parts
   pub fits : fits_part (part_at parts entry.object) entry.call ≡ true
-  pub numbers : IsCall entry.call
 
 -- a call that only looks
 abbrev pub only_looks : Call → Bool

@@ -39,6 +39,9 @@ abbrev pub start_of : Part → List ℕ
 start_of part = start_by part.kind part.cap
 
 -- whether a call is one of a cell, a queue, a list or registers, with its numbers in range
+abbrev pub is_value : ℕ → Bool
+is_value n = nat_le n most_value
+
 abbrev pub fits_cell : Call → Bool
 fits_cell Get = true
 fits_cell (Set v) = nat_le v most_cell
@@ -47,14 +50,14 @@ fits_cell (Swap old new) = nat_le old most_cell && nat_le new most_cell
 fits_cell _ = false
 
 abbrev pub fits_queue : Call → Bool
-fits_queue (Put v) = true
+fits_queue (Put v) = is_value v
 fits_queue Take = true
 fits_queue _ = false
 
 abbrev pub fits_list : Call → Bool
-fits_list (Insert k) = true
-fits_list (Remove k) = true
-fits_list (Has k) = true
+fits_list (Insert k) = is_value k
+fits_list (Remove k) = is_value k
+fits_list (Has k) = is_value k
 fits_list _ = false
 
 -- whether a number is there twice
@@ -68,15 +71,19 @@ is_blank row = (row.i == 0) && (row.old == 0) && (row.new == 0)
 abbrev pub register_of : Row → ℕ
 register_of row = row.i
 
+-- a row names one of so many registers
+abbrev pub is_row : ℕ → Row → Bool
+is_row cap row = nat_lt row.i cap && is_value row.old && is_value row.new
+
 -- 1 to 4 rows that name different registers, and zeros after them
 abbrev pub are_rows : ℕ → ℕ → List Row → Bool
 are_rows cap count rows =
-    nat_le 1 count && nat_le count 4 && list_all (λ (row : Row). nat_lt row.i cap) (take count rows)
+    nat_le 1 count && nat_le count 4 && list_all (is_row cap) (take count rows)
     && not (have_repeat (map register_of (take count rows))) && list_all is_blank (drop count rows)
 
 abbrev pub fits_registers : ℕ → Call → Bool
 fits_registers cap (Read i) = nat_lt i cap
-fits_registers cap (Shift from to n) = nat_lt from cap && nat_lt to cap && not (from == to)
+fits_registers cap (Shift from to n) = nat_lt from cap && nat_lt to cap && not (from == to) && is_value n
 fits_registers cap (Multi count rows) = are_rows cap count rows
 fits_registers cap _ = false
 

@@ -1,6 +1,6 @@
 //! Laws of the table. Each function does nothing: its contract is the law, and holds of every object.
 ghost use Rattle.rx_seq.specs.History.{part_at, replay};
-ghost use Rattle.rx_seq.specs.States.{IsCall, IsFitting, IsState, IsValue, only_looks, tells_no_change};
+ghost use Rattle.rx_seq.specs.States.{IsFitting, IsState, IsValue, only_looks, tells_no_change};
 ghost use Rattle.rx_seq.specs.Table.{IsPart, effect, fits_part, start_of};
 ghost use Rattle.rx_seq.specs.declared.calls.Call.{Call};
 ghost use Rattle.rx_seq.specs.declared.entries.Entry.{Entry};
@@ -13,7 +13,7 @@ ghost use Rattle.std.specs.Prelude.{ℕ, ◌≡◌, ◌≤◌, true, List, lengt
 /// replay of a history in which each call fits its object.
 pub fn states_are_kept()
     ensures first { (part : Part) → IsPart part → IsState part (start_of part) }
-    ensures next { (part : Part) (state : List ℕ) (call : Call) → IsPart part → IsState part state → fits_part part call ≡ true → IsCall call → IsState part (effect part state call).state }
+    ensures next { (part : Part) (state : List ℕ) (call : Call) → IsPart part → IsState part state → fits_part part call ≡ true → IsState part (effect part state call).state }
     ensures bounded { (part : Part) (state : List ℕ) → IsPart part → IsState part state → (length state ≤ part.cap) × All IsValue state }
     ensures replayed { (parts : List Part) (object : ℕ) (history : List Entry) → IsPart (part_at parts object) → All (IsFitting parts) history → IsState (part_at parts object) (replay parts object history) }
 {}

@@ -1,9 +1,8 @@
 // Registers: a fixed count of numbers.
 ghost use Rattle.rx_seq.specs.States.{IsValue};
-ghost use Rattle.rx_seq.specs.Table.{are_rows, first_difference, fits_registers, have_repeat, is_blank, register_of, shifted, transaction, with_rows};
-ghost use Rattle.rx_seq.specs.declared.calls.Row.{Row};
+ghost use Rattle.rx_seq.specs.Table.{are_rows, first_difference, fits_registers, have_repeat, is_blank, is_row, register_of, shifted, transaction, with_rows};
 ghost use Rattle.std.specs.List.{list_all, list_any, All};
-ghost use Rattle.std.specs.Prelude.{◌≡◌, ◌==◌, ◌<◌, ◌≤◌, nat_lt, true, [], length, map, replicate, slice_index, slice_set, take};
+ghost use Rattle.std.specs.Prelude.{◌≡◌, ◌==◌, ◌<◌, ◌≤◌, true, [], length, map, replicate, slice_index, slice_set, take};
 
 use crate::calls::{Call, Row};
 use crate::objects::State;
@@ -34,9 +33,16 @@ fn is_transaction(cap: u32, count: u32, rows: &[Row; 4]) -> bool
 
 /// Whether each of the rows names one of so many registers.
 fn are_below(cap: u32, rows: &[Row]) -> bool
-    ensures { result ≡ list_all (λ (row : Row). nat_lt row.i cap) rows.now }
+    ensures { result ≡ list_all (is_row cap) rows.now }
 {
-    rows.iter().all(|row| row.i < cap)
+    rows.iter().all(|row| is_below(cap, *row))
+}
+
+/// Whether a row names one of so many registers. Its values have 32 bits.
+fn is_below(cap: u32, row: Row) -> bool
+    ensures { result ≡ is_row cap row }
+{
+    row.i < cap
 }
 
 /// Whether each of the rows is zeros.
