@@ -8,27 +8,24 @@ use Rattle.rx_set.specs.declared.policies.Policy.{Policy}
 use Rattle.rx_set.specs.declared.items.Item.{Item}
 use Rattle.rx_set.specs.declared.items.Item.TheVariants.{Work, Op}
 use Rattle.rx_set.specs.declared.jobs.Job.{Job}
+use Rattle.rx_set.specs.declared.objects.Object.{Object}
 use Rattle.rx_set.specs.declared.tasks.Task.{Task}
 use Rattle.rx_set.specs.System.{System, TaskRow, no_task, task_at, task_of, rank, is_ahead, numbers}
-use Rattle.rx_set.specs.Valid.{IsValid, IsItem, IsShortWork, IsJob}
+use Rattle.rx_set.specs.Valid.{IsValid, IsItem, IsJob}
 use Rattle.rx_set.specs.View.{row_of, system_of}
 use Rattle.rx_set.specs.Ranked.{IsTaskSet}
 use Rattle.rx_set.proofs.Counts.{length-numbers, get_or-map_numbers}
 use Rattle.rx_set.proofs.Ranks.{rank_found}
 use Rattle.rx_set.proofs.Releases.{periods_bound}
 
-short_work : (system : System) (item : Item) → length system.objects ≡ 0 → IsItem system item → IsShortWork item
-short_work system (Work ticks) none valid = valid.1
-short_work system (Op object call) none valid = absurd (omega (arith, valid.0))
-
-pub task_read : (policy : Policy) (tasks : List Task) (k : ℕ) (task : Task) → k < length tasks → task ≡ get_or tasks k task → task_at (system_of policy tasks) k ≡ row_of task
-task_read policy tasks k task known is = get_or-map row_of tasks k task no_task known ∙ ap row_of (sym is)
+pub task_read : (policy : Policy) (objects : List Object) (tasks : List Task) (k : ℕ) (task : Task) → k < length tasks → task ≡ get_or tasks k task → task_at (system_of policy objects tasks) k ≡ row_of task
+task_read policy objects tasks k task known is = get_or-map row_of tasks k task no_task known ∙ ap row_of (sym is)
 
 -- the same of the set that is shown
-pub row_read : (policy : Policy) (tasks : List Task) (shown : System) (k : ℕ) (task : Task) → system_of policy tasks ≡ shown → k < length shown.tasks → task ≡ get_or tasks k task → task_at shown k ≡ row_of task
-row_read policy tasks shown k task is known same =
+pub row_read : (policy : Policy) (objects : List Object) (tasks : List Task) (shown : System) (k : ℕ) (task : Task) → system_of policy objects tasks ≡ shown → k < length shown.tasks → task ≡ get_or tasks k task → task_at shown k ≡ row_of task
+row_read policy objects tasks shown k task is known same =
     let P : System → Type 0 = λ s. k < length s.tasks → task_at s k ≡ row_of task in
-    let here : P (system_of policy tasks) = λ inside. task_read policy tasks k task (omega (arith, length-map tasks row_of)) same in
+    let here : P (system_of policy objects tasks) = λ inside. task_read policy objects tasks k task (omega (arith, length-map tasks row_of)) same in
     subst P is here known
 
 pub shown_valid : (system shown : System) → system ≡ shown → IsValid system → IsValid shown
@@ -45,19 +42,10 @@ job_bound shown job task valid known is =
       subst (λ (r : TaskRow). r.deadline ≤ 1000000) is (omega (arith, row.deadline.1, row.period.1)),
     )
 
--- a set in memory has no objects, so its items are work
-pub all_work : (policy : Policy) (tasks : List Task) (shown : System) (k : ℕ) → system_of policy tasks ≡ shown → IsValid shown → k < length shown.tasks
-    → All IsShortWork (task_at shown k).items
-all_work policy tasks shown k is valid known =
-    let none : length shown.objects ≡ 0 = sym (ap (λ (s : System). length s.objects) is) in
-    All-from_get_or IsShortWork (task_at shown k).items (Work 0)
-    (λ place inside. short_work shown (get_or (task_at shown k).items place (Work 0)) none
-    ((valid.tasks k known).items place _ (slice_get-get_or (task_at shown k).items place (Work 0) inside)))
-
 -- ranks as they are counted
-pub rank_counted : (policy : Policy) (tasks : List Task) (k count : ℕ) → count ≡ count_by (is_ahead (system_of policy tasks) k) (numbers (length tasks)) → count + 1 ≡ rank (system_of policy tasks) k
+pub rank_counted : (policy : Policy) (tasks : List Task) (k count : ℕ) → count ≡ count_by (is_ahead (system_of policy [] tasks) k) (numbers (length tasks)) → count + 1 ≡ rank (system_of policy [] tasks) k
 rank_counted policy tasks k count is =
-    ap (λ n. n + 1) is ∙ ap (λ n. count_by (is_ahead (system_of policy tasks) k) (numbers n) + 1) (sym (length-map tasks row_of))
+    ap (λ n. n + 1) is ∙ ap (λ n. count_by (is_ahead (system_of policy [] tasks) k) (numbers n) + 1) (sym (length-map tasks row_of))
 
 pub map_numbers_more : (f : ℕ → ℕ) (n : ℕ) → map f (numbers (n + 1)) ≡ map f (numbers n) ++ f n ∷ []
 map_numbers_more f n = rw add-one (map-append f (numbers n) (n ∷ []))

@@ -129,3 +129,24 @@ item_cost system (Op object call) = attempt_cost system object
 -- the stated cost of a task is the sum of its items' costs
 abbrev pub cost : System → ℕ → ℕ
 cost system task = sum_by (item_cost system) (task_at system task).items
+
+-- the larger of two numbers, and the largest of f 0 to f (n - 1), which is 0 where there is none
+abbrev pub larger : ℕ → ℕ → ℕ
+larger a b = if nat_lt a b then b else a
+
+abbrev pub largest : (ℕ → ℕ) → ℕ → ℕ
+largest f zero = 0
+largest f (suc n) = larger (largest f n) (f n)
+
+-- the ticks of one attempt of an item; work has none
+abbrev pub retry_of : System → Option Item → ℕ
+retry_of system None = 0
+retry_of system (Some (Work ticks)) = 0
+retry_of system (Some (Op object call)) = attempt_cost system object
+
+abbrev pub retry_of_task : System → TaskRow → ℕ
+retry_of_task system row = largest (λ place. retry_of system (slice_get row.items place)) (length row.items)
+
+-- the retry cost is that of the longest attempt of any operation in the set
+abbrev pub retry_cost : System → ℕ
+retry_cost system = largest (λ task. retry_of_task system (task_at system task)) (length system.tasks)

@@ -18,11 +18,6 @@ abbrev pub IsWork : Item → Type 0
 IsWork (Work ticks) = Unit {0}
 IsWork (Op object call) = ⊥
 
--- and takes at most 1,000,000 ticks
-abbrev pub IsShortWork : Item → Type 0
-IsShortWork (Work ticks) = ticks ≤ 1000000
-IsShortWork (Op object call) = ⊥
-
 -- the item of a job at a place from 0 is one of work
 abbrev pub IsWorkAt : System → Job → ℕ → Type 0
 IsWorkAt system job place = (stated : ℕ) × (slice_get (task_of system job).items place ≡ Some (Work stated))

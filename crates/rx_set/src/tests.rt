@@ -24,7 +24,7 @@ fn two_tasks(alloc: Global, policy: Policy) -> Result<TaskSet, Fail>
         offset: 0,
         body: Body::of(vec![in alloc; Item::Work { n: 5 }, Item::Work { n: 1 }]?),
     };
-    Ok(TaskSet::build(policy, vec![in alloc; fast, urgent]?))
+    Ok(TaskSet::build(policy, vec![in alloc;]?, vec![in alloc; fast, urgent]?))
 }
 
 #[test]
