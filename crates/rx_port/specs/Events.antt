@@ -60,18 +60,18 @@ pub record Decided (layout : Layout) (stood stands : Core → Type 0) (before no
   pub view_is : now ≡ decided_view (word == attempt.expected) history (entry_for layout history before.number attempt.object attempt.call) before attempt word pairs
   pub after : stands (exchanged core attempt.object (if word == attempt.expected then new else word) before.number now)
 
--- what a decide may be asked for first: the root and the trade of a plan for the words read and the own places
+-- the new root and the trade are those of a plan for the words that were read and the own places; its tag has room
 pub record IsPlanOf (layout : Layout) (view : View) (attempt : Attempt) (new : ℕ) (pairs : List Pair) : Type 0 where
   pub room : tag_of attempt.expected + 1 < 2 ^ 40
   pub plans : Plans (home layout attempt.object) attempt.call attempt.expected attempt.reads (own_of view attempt.object) attempt.writes new pairs
   pub below : EachBelow (stock_size (part_at layout.parts attempt.object)) pairs
 
--- or any root and no trade, where no version with the expected root has the words read
+-- no version with the expected root has the words that were read, and the trade is empty
 pub record IsHopeless (layout : Layout) (attempt : Attempt) (pairs : List Pair) : Type 0 where
   pub stale : IsStale (home layout attempt.object) attempt.expected attempt.reads
   pub none : pairs ≡ []
 
--- the two cases of a decide
+-- what a decide is asked: one of these two
 pub record IsDecision (layout : Layout) (view : View) (attempt : Attempt) (new : ℕ) (pairs : List Pair) : Type 0 where
   pub is_open : view.attempt ≡ Some attempt
   pub case : IsPlanOf layout view attempt new pairs ⊎ IsHopeless layout attempt pairs
