@@ -2,6 +2,8 @@ pub mod Lists
 pub mod Told
 pub mod Chosen
 pub mod Moves
+pub mod Banks
+pub mod Kept
 pub mod Firsts
 pub mod Prefixes
 pub mod Choices

@@ -1,54 +1,44 @@
 -- What a slot does to what is kept.
-use Rattle.std.proofs.Common.{ℕ, zero, suc, ◌≡◌, ◌≢◌, ◌≤◌, ◌<◌, ◌+◌, ◌^◌, ◌==◌, ◌&&◌, nat_le, nat_lt, not, Bool, true, false, if◌then◌else◌, List, [], ◌∷◌, ◌++◌, length, get_or, slice_set, Option, Some, None, refl, sym, ◌∙◌, ap, arith, subst, add-one, append_assoc}
-use Rattle.std.specs.List.{slice_get}
+use Rattle.std.proofs.Common.{ℕ, zero, suc, ◌≡◌, ◌≢◌, ◌≤◌, ◌<◌, ◌+◌, ◌^◌, ◌==◌, ◌&&◌, nat_le, nat_lt, not, Bool, true, false, if◌then◌else◌, List, [], ◌∷◌, ◌++◌, length, slice_set, Option, Some, None, refl, sym, ◌∙◌, ap, arith, subst, add-one, append_assoc}
 use Rattle.std.specs.Option.{ForSome}
 use Rattle.std.proofs.Math.Decide.{dec_le}
 use Rattle.std.proofs.lemmas.Bool.{lt-leb, le-leb}
 use Rattle.std.proofs.lemmas.Bool.Decides.{nat_tests}
 use Rattle.std.proofs.lemmas.List.{get_or-set_other, length-set}
 use Rattle.std.proofs.lemmas.Grind.{get_or-set_at}
-use Rattle.std.proofs.lemmas.Option.{slice_get-get_or}
-use Rattle.rx_set.specs.declared.items.Item.{Item}
-use Rattle.rx_set.specs.declared.items.Item.TheVariants.{Work, Op}
 use Rattle.rx_set.specs.declared.jobs.Job.{Job}
-use Rattle.rx_set.specs.System.{System, ObjectRow, DemandRow, task_at, task_of, item_at, demanded, due}
-use Rattle.rx_set.specs.Valid.{IsItem, IsJob, IsWorkAt}
+use Rattle.rx_set.specs.System.{System, task_at, task_of, item_at, due}
+use Rattle.rx_set.specs.Valid.{IsJob}
 use Rattle.rx_tick.specs.declared.states.State.{State}
-use Rattle.rx_tick.specs.Schedule.{Slot, Idle, Busy, Decide, Progress, completed, lost, ticked, after, sooner, job_in, same, progress, is_finished, ends_work, decides, tick_in, tick_of, slot_of, next_slot, slot_at, chosen, slots, Asked}
+use Rattle.rx_tick.specs.Schedule.{Slot, Idle, Busy, Decide, Progress, completed, lost, ticked, after, sooner, job_in, same, progress, is_finished, ends_work, decides, tick_in, slot_of, next_slot, slot_at, chosen, slots, Asked}
 use Rattle.rx_tick.specs.declared.events.Event.{Event}
 use Rattle.rx_tick.specs.declared.events.Event.TheVariants.{Preempt}
 use Rattle.rx_tick.specs.Events.{last_job, preempted, decision, finish, finished_in, events_of, misses, releases}
-use Rattle.rx_tick.specs.States.{job, no_state, state_at, progress_of, tick_made, with_progress, after_tick, IsState, AreStates, IsBeforeDue, AreBeforeDue, AreBeforeRelease, IsWorkSystem, IsOffered, offer, best_of}
-use Rattle.rx_tick.proofs.Lists.{none_not}
+use Rattle.rx_tick.specs.States.{job, no_state, state_at, progress_of, with_progress, with_root, after_slot, IsState, AreStates, IsBeforeDue, AreBeforeDue, AreBeforeRelease, IsOffered, offer, best_of}
+use Rattle.rx_tick.specs.Laws.{who}
+use Rattle.rx_tick.proofs.Lists.{some_same, none_not}
+use Rattle.rx_tick.proofs.Choices.{who_is}
+use Rattle.rx_tick.proofs.Steps.{other_slot}
 use Rattle.rx_tick.proofs.Prefixes.{slots_count}
 use Rattle.rx_tick.proofs.Told.{released_bound}
 use Rattle.rx_tick.proofs.Chosen.{chosen_is, best_offered}
 
--- a slot of another job leaves the progress
-other_job : (system : System) (past : List Slot) (mine other : Job) → same other mine ≡ false → progress system mine (Busy other ∷ past) ≡ progress system mine past
-other_job system past mine other e =
-    ap (λ (b : Bool). if b then (if ends_work (item_at system mine (progress system mine past).complete) (progress system mine past).made then completed (progress system mine past) else ticked (length past) (progress system mine past)) else progress system mine past) e
-
--- a slot of the job brings it a tick further
-own_job : (system : System) (past : List Slot) (task k : ℕ) (p : Progress) (ends : Bool) → progress system (job task k) past ≡ p → ends ≡ ends_work (item_at system (job task k) p.complete) p.made
-    → progress system (job task k) (Busy (job task k) ∷ past) ≡ (if ends then completed p else ticked (length past) p)
-own_job system past task k p ends e f =
-    let same_is : same (job task k) (job task k) ≡ true = grind (arith, nat_tests) in
-    ap (λ (q : Progress). after system (job task k) (length past) (Busy (job task k)) q) e
-    ∙ ap (λ (b : Bool). if b then (if ends_work (item_at system (job task k) p.complete) p.made then completed p else ticked (length past) p) else p) same_is
-    ∙ ap (λ (b : Bool). if b then completed p else ticked (length past) p) (sym f)
-
 differ : (task k m : ℕ) → k ≢ m → same (job task k) (job task m) ≡ false
 differ task k m h = grind (arith, nat_tests)
 
-differ_task : (a b k m : ℕ) → a ≢ b → same (job a k) (job b m) ≡ false
-differ_task a b k m h = grind (arith, nat_tests)
+differ_task : (mine : Job) (task m : ℕ) → mine.task ≢ task → same mine (job task m) ≡ false
+differ_task mine task m h = grind (arith, nat_tests)
+
+-- a slot of one job leaves the others' progress
+other_job : (system : System) (past : List Slot) (slot : Slot) (mine other : Job) → job_in slot ≡ Some mine → same mine other ≡ false → progress system other (slot ∷ past) ≡ progress system other past
+other_job system past slot mine other owner apart =
+    (other_slot system past other slot (λ x e. ap (λ (j : Job). same j other) (some_same x mine (sym e ∙ owner)) ∙ apart)).stays
 
 -- the states of other tasks stay
-state_stays : (system : System) (past : List Slot) (time task other k : ℕ) (s : State) → IsState system past time task s → other ≢ task → IsState system (Busy (job other k) ∷ past) time task s
-state_stays system past time task other k s kept h =
-    let stays : (m : ℕ) → progress system (job task m) (Busy (job other k) ∷ past) ≡ progress system (job task m) past
-    = λ m. other_job system past (job task m) (job other k) (differ_task other task k m h) in record {
+state_stays : (system : System) (past : List Slot) (time task : ℕ) (slot : Slot) (mine : Job) (s : State) → job_in slot ≡ Some mine → IsState system past time task s → mine.task ≢ task → IsState system (slot ∷ past) time task s
+state_stays system past time task slot mine s owner kept h =
+    let stays : (m : ℕ) → progress system (job task m) (slot ∷ past) ≡ progress system (job task m) past
+    = λ m. other_job system past slot mine (job task m) owner (differ_task mine task m h) in record {
       finished = λ m low high. ap (λ (p : Progress). nat_le (length (task_at system task).items) p.complete) (stays m) ∙ kept.finished m low high;
       started = stays (s.finished + 1) ∙ kept.started;
       unfinished = kept.unfinished;
@@ -59,13 +49,26 @@ state_stays system past time task other k s kept h =
       order = kept.order;
     }
 
-module _ (system : System) (past : List Slot) (time task : ℕ) (s : State) (kept : IsState system past time task s) where
-  private_stays : (m : ℕ) → s.finished + 1 ≢ m → progress system (job task m) (Busy (job task (s.finished + 1)) ∷ past) ≡ progress system (job task m) past
-  private_stays m h = other_job system past (job task m) (job task (s.finished + 1)) (differ task (s.finished + 1) m h)
+-- whatever root is kept
+pub rooted : (system : System) (past : List Slot) (time task root : ℕ) (s : State) → IsState system past time task s → IsState system past time task (with_root root s)
+rooted system past time task root s kept = record {
+  finished = kept.finished;
+  started = kept.started;
+  unfinished = kept.unfinished;
+  later = kept.later;
+  next_release = kept.next_release;
+  next = kept.next;
+  last = kept.last;
+  order = kept.order;
+}
+
+module _ (system : System) (past : List Slot) (time task : ℕ) (slot : Slot) (s : State) (owner : job_in slot ≡ Some (job task (s.finished + 1))) (kept : IsState system past time task s) where
+  private_stays : (m : ℕ) → s.finished + 1 ≢ m → progress system (job task m) (slot ∷ past) ≡ progress system (job task m) past
+  private_stays m h = other_job system past slot (job task (s.finished + 1)) (job task m) owner (differ task (s.finished + 1) m h)
 
   -- the state of a task whose started job has the slot, and is not finished by it
-  goes_on : (p : Progress) → progress system (job task (s.finished + 1)) (Busy (job task (s.finished + 1)) ∷ past) ≡ p → p.complete < length (task_at system task).items
-      → IsState system (Busy (job task (s.finished + 1)) ∷ past) time task (record s { complete = p.complete; made = p.made; first = p.first })
+  goes_on : (p : Progress) → progress system (job task (s.finished + 1)) (slot ∷ past) ≡ p → p.complete < length (task_at system task).items
+      → IsState system (slot ∷ past) time task (record s { complete = p.complete; made = p.made; first = p.first })
   goes_on p e h = record {
     finished = λ m low high. ap (λ (q : Progress). nat_le (length (task_at system task).items) q.complete) (private_stays m (λ f. absurd (omega arith))) ∙ kept.finished m low high;
     started = e;
@@ -78,14 +81,14 @@ module _ (system : System) (past : List Slot) (time task : ℕ) (s : State) (kep
   }
 
   -- and of one whose started job is finished by it
-  ends_job : (p : Progress) → progress system (job task (s.finished + 1)) (Busy (job task (s.finished + 1)) ∷ past) ≡ p → p.complete ≡ length (task_at system task).items → s.finished < s.released
-      → IsState system (Busy (job task (s.finished + 1)) ∷ past) time task (record s { finished = s.finished + 1; complete = 0; made = 0; first = 0 })
+  ends_job : (p : Progress) → progress system (job task (s.finished + 1)) (slot ∷ past) ≡ p → p.complete ≡ length (task_at system task).items → s.finished < s.released
+      → IsState system (slot ∷ past) time task (record s { finished = s.finished + 1; complete = 0; made = 0; first = 0 })
   ends_job p e h some = record {
     finished = λ m low high. elim (dec_le m s.finished) [
       | yes before ↦ ap (λ (q : Progress). nat_le (length (task_at system task).items) q.complete) (private_stays m (λ f. absurd (omega arith))) ∙ kept.finished m low before
       | no this ↦
           let here : m ≡ s.finished + 1 = omega arith in
-          ap (λ (n : ℕ). is_finished system (Busy (job task (s.finished + 1)) ∷ past) (job task n)) here
+          ap (λ (n : ℕ). is_finished system (slot ∷ past) (job task n)) here
           ∙ ap (λ (q : Progress). nat_le (length (task_at system task).items) q.complete) e
           ∙ le-leb (length (task_at system task).items) p.complete (omega arith)
     ];
@@ -99,12 +102,12 @@ module _ (system : System) (past : List Slot) (time task : ℕ) (s : State) (kep
   }
 
   -- both at once
-  moved : (p : Progress) → progress system (job task (s.finished + 1)) (Busy (job task (s.finished + 1)) ∷ past) ≡ p → p.complete ≤ length (task_at system task).items → s.finished < s.released
-      → IsState system (Busy (job task (s.finished + 1)) ∷ past) time task (with_progress (length (task_at system task).items) s p)
+  moved : (p : Progress) → progress system (job task (s.finished + 1)) (slot ∷ past) ≡ p → p.complete ≤ length (task_at system task).items → s.finished < s.released
+      → IsState system (slot ∷ past) time task (with_progress (length (task_at system task).items) s p)
   moved p e h some = by_test (p.complete == length (task_at system task).items) refl
     where
       by_test : (b : Bool) → (p.complete == length (task_at system task).items) ≡ b
-          → IsState system (Busy (job task (s.finished + 1)) ∷ past) time task
+          → IsState system (slot ∷ past) time task
           (if b then record s { finished = s.finished + 1; complete = 0; made = 0; first = 0 } else record s { complete = p.complete; made = p.made; first = p.first })
       by_test true f = ends_job p e (grind (arith, nat_tests)) some
       by_test false f = goes_on p e (let apart : p.complete ≢ length (task_at system task).items = grind (arith, nat_tests) in omega arith)
@@ -219,35 +222,25 @@ finished_after items s p = by_test (p.complete == items)
     by_test true = refl
     by_test false = refl
 
-complete_after : (ends : Bool) (now : ℕ) (s : State) → (tick_made ends now s).complete ≤ s.complete + 1
-complete_after true now s = omega arith
-complete_after false now s = omega arith
-
--- an item of a system of work is work, and no job demands another number of ticks
-module _ (system : System) (of : IsWorkSystem system) where
-  short_item : (item : Item) → IsItem system item → (stated : ℕ) × (item ≡ Work stated)
-  short_item (Work stated) valid = (stated, refl)
-  short_item (Op object call) valid = absurd (omega (arith, valid.0, ap (λ (rows : List ObjectRow). length rows) of.no_objects))
-
-  pub work_at : (mine : Job) (place : ℕ) → mine.task < length system.tasks → place < length (task_of system mine).items → IsWorkAt system mine place
-  work_at mine place known inside =
-      let there = slice_get-get_or (task_of system mine).items place (Work 0) inside in
-      let short = short_item (get_or (task_of system mine).items place (Work 0)) ((of.valid.tasks mine.task known).items place _ there) in
-      (short.0, there ∙ ap (λ (item : Item). Some item) short.1)
-
-  item_is : (mine : Job) (place : ℕ) → mine.task < length system.tasks → place < length (task_of system mine).items → (stated : ℕ) × (item_at system mine place ≡ Some (Work stated))
-  item_is mine place known inside =
-      let work = work_at mine place known inside in
-      (work.0, ap (λ (rows : List DemandRow). demanded rows mine (place + 1) (slice_get (task_of system mine).items place)) of.no_demands ∙ ap (demanded [] mine (place + 1)) work.1)
-
-  -- a slot of such a system is idle, or a tick of work of the job that is chosen
-  pub busy_slot : (past : List Slot) (mine : Job) (p : Progress) → mine.task < length system.tasks → progress system mine past ≡ p → p.complete < length (task_of system mine).items
-      → chosen system past ≡ Some mine → next_slot system past ≡ Busy mine
-  busy_slot past mine p known e inside h =
-      let work = item_is mine p.complete known inside in
-      ap (slot_of system past) h
-      ∙ ap (tick_of system past mine) e
-      ∙ ap (λ (item : Option Item). tick_in system past mine p (decides system item p.made)) work.1
+-- a slot completes one item at most
+complete_after : (system : System) (mine : Job) (n : ℕ) (slot : Slot) (p : Progress) → (after system mine n slot p).complete ≤ p.complete + 1
+complete_after system mine n Idle p = omega arith
+complete_after system mine n (Busy other) p = by_test (same other mine) (ends_work (item_at system mine p.complete) p.made)
+  where
+    by_test : (b e : Bool) → (if b then (if e then completed p else ticked n p) else p).complete ≤ p.complete + 1
+    by_test true true = omega arith
+    by_test true false = omega arith
+    by_test false e = omega arith
+complete_after system mine n (Decide other object None) p = by_test (same other mine)
+  where
+    by_test : (b : Bool) → (if b then lost p else p).complete ≤ p.complete + 1
+    by_test true = omega arith
+    by_test false = omega arith
+complete_after system mine n (Decide other object (Some entry)) p = by_test (same other mine)
+  where
+    by_test : (b : Bool) → (if b then completed p else p).complete ≤ p.complete + 1
+    by_test true = omega arith
+    by_test false = omega arith
 
 pub idle_slot : (system : System) (past : List Slot) → chosen system past ≡ None → next_slot system past ≡ Idle
 idle_slot system past h = ap (slot_of system past) h
@@ -269,12 +262,12 @@ idle_states system past time states kept = record {
   };
 }
 
--- the job that has the slot, its task's state, and what they become
+-- the job that has the slot, its task's state, and what they become, where the state has this root after the slot
 module _ (system : System) (now : ℕ) (states : List State) (kept : AreStates system (slots system now) (now + 1) states) (mine : Job) (best : best_of system (length system.tasks) states ≡ Some mine) where
   pub offered_here : IsOffered states mine
   offered_here = best_offered system states (length system.tasks) (omega (arith, kept.count)) mine best
 
-  known_here : mine.task < length system.tasks
+  pub known_here : mine.task < length system.tasks
   known_here = omega (arith, offered_here.task, kept.count)
 
   pub state_here : IsState system (slots system now) (now + 1) mine.task (state_at states mine.task)
@@ -283,130 +276,122 @@ module _ (system : System) (now : ℕ) (states : List State) (kept : AreStates s
   mine_is : mine ≡ job mine.task ((state_at states mine.task).finished + 1)
   mine_is = ap (job mine.task) offered_here.number
 
-  started_here : progress system mine (slots system now) ≡ progress_of (state_at states mine.task)
+  pub started_here : progress system mine (slots system now) ≡ progress_of (state_at states mine.task)
   started_here = ap (λ (j : Job). progress system j (slots system now)) mine_is ∙ state_here.started
 
-  pub slot_here : next_slot system (slots system now) ≡ Busy mine
-  slot_here = busy_slot system kept.of (slots system now) mine (progress_of (state_at states mine.task)) known_here started_here state_here.unfinished (chosen_is system now states kept ∙ best)
+  pub owner_here : who system now ≡ Some mine
+  owner_here = who_is system now ∙ chosen_is system now states kept ∙ best
 
-  pub slots_here : slots system (now + 1) ≡ Busy mine ∷ slots system now
-  slots_here = rw (add-one now) (ap (λ (slot : Slot). slot ∷ slots system now) slot_here)
+  pub slots_here : slots system (now + 1) ≡ slot_at system now ∷ slots system now
+  slots_here = rw (add-one now) refl
 
   progress_here : Progress
-  progress_here = tick_made (ends_work (item_at system mine (state_at states mine.task).complete) (state_at states mine.task).made) now (state_at states mine.task)
+  progress_here = after system mine now (slot_at system now) (progress_of (state_at states mine.task))
 
   items_here : ℕ
   items_here = length (task_of system mine).items
 
-  after_here : State
-  after_here = after_tick system now mine (state_at states mine.task)
-
-  progress_next : progress system mine (Busy mine ∷ slots system now) ≡ progress_here
+  progress_next : progress system mine (slot_at system now ∷ slots system now) ≡ progress_here
   unfolding progress_here
   progress_next =
-      ap (λ (j : Job). progress system j (Busy j ∷ slots system now)) mine_is
-      ∙ own_job system (slots system now) mine.task ((state_at states mine.task).finished + 1) (progress_of (state_at states mine.task))
-      (ends_work (item_at system mine (state_at states mine.task).complete) (state_at states mine.task).made) state_here.started
-      (ap (λ (j : Job). ends_work (item_at system j (state_at states mine.task).complete) (state_at states mine.task).made) mine_is)
-      ∙ ap (λ (n : ℕ). tick_made (ends_work (item_at system mine (state_at states mine.task).complete) (state_at states mine.task).made) n (state_at states mine.task)) (slots_count system now)
+      ap (λ (n : ℕ). after system mine n (slot_at system now) (progress system mine (slots system now))) (slots_count system now)
+      ∙ ap (after system mine now (slot_at system now)) started_here
 
   -- the job that has the slot is finished by it where the count of finished jobs grows
-  finished_is_here : is_finished system (Busy mine ∷ slots system now) mine ≡ nat_le items_here progress_here.complete
+  finished_is_here : is_finished system (slot_at system now ∷ slots system now) mine ≡ nat_le items_here progress_here.complete
   unfolding items_here
   finished_is_here = ap (λ (p : Progress). nat_le (length (task_of system mine).items) p.complete) progress_next
 
   few_here : progress_here.complete ≤ items_here
   unfolding progress_here items_here
-  few_here = omega (arith, complete_after (ends_work (item_at system mine (state_at states mine.task).complete) (state_at states mine.task).made) now (state_at states mine.task), state_here.unfinished)
+  few_here = omega (arith, complete_after system mine now (slot_at system now) (progress_of (state_at states mine.task)), state_here.unfinished)
 
-  counts_here : after_here.finished ≡ (if progress_here.complete == items_here then (state_at states mine.task).finished + 1 else (state_at states mine.task).finished)
-  unfolding progress_here items_here after_here
-  counts_here = finished_after (length (task_of system mine).items) (state_at states mine.task)
-      (tick_made (ends_work (item_at system mine (state_at states mine.task).complete) (state_at states mine.task).made) now (state_at states mine.task))
+  module _ (root : ℕ) where
+    after_here : State
+    after_here = after_slot system now mine (slot_at system now) (with_root root (state_at states mine.task))
 
-  next_slots : Slot → List Slot
-  next_slots slot = slot ∷ slots system now
+    counts_here : after_here.finished ≡ (if progress_here.complete == items_here then (state_at states mine.task).finished + 1 else (state_at states mine.task).finished)
+    unfolding progress_here items_here after_here
+    counts_here = finished_after (length (task_of system mine).items) (with_root root (state_at states mine.task))
+        (after system mine now (slot_at system now) (progress_of (state_at states mine.task)))
 
-  pub not_done : (after_tick system now mine (state_at states mine.task)).finished ≡ (state_at states mine.task).finished → is_finished system (slot_at system now ∷ slots system now) mine ≡ false
-  unfolding after_here
-  not_done e =
-      ap (λ (slot : Slot). is_finished system (slot ∷ slots system now) mine) slot_here ∙ finished_is_here ∙ by_count (progress_here.complete == items_here) refl
-    where
-      by_count : (b : Bool) → (progress_here.complete == items_here) ≡ b → nat_le items_here progress_here.complete ≡ false
-      by_count true f = absurd (omega (arith, counts_here ∙ ap (λ (t : Bool). if t then (state_at states mine.task).finished + 1 else (state_at states mine.task).finished) f, e))
-      by_count false f = let apart : progress_here.complete ≢ items_here = grind (arith, nat_tests) in lt-leb items_here progress_here.complete (omega (arith, few_here))
+    pub not_done : (after_slot system now mine (slot_at system now) (with_root root (state_at states mine.task))).finished ≡ (state_at states mine.task).finished → is_finished system (slot_at system now ∷ slots system now) mine ≡ false
+    unfolding after_here
+    not_done e = finished_is_here ∙ by_count (progress_here.complete == items_here) refl
+      where
+        by_count : (b : Bool) → (progress_here.complete == items_here) ≡ b → nat_le items_here progress_here.complete ≡ false
+        by_count true f = absurd (omega (arith, counts_here ∙ ap (λ (t : Bool). if t then (state_at states mine.task).finished + 1 else (state_at states mine.task).finished) f, e))
+        by_count false f = let apart : progress_here.complete ≢ items_here = grind (arith, nat_tests) in lt-leb items_here progress_here.complete (omega (arith, few_here))
 
-  pub done : (after_tick system now mine (state_at states mine.task)).finished ≢ (state_at states mine.task).finished → is_finished system (slot_at system now ∷ slots system now) mine ≡ true
-  unfolding after_here
-  done e =
-      ap (λ (slot : Slot). is_finished system (slot ∷ slots system now) mine) slot_here ∙ finished_is_here ∙ by_count (progress_here.complete == items_here) refl
-    where
-      by_count : (b : Bool) → (progress_here.complete == items_here) ≡ b → nat_le items_here progress_here.complete ≡ true
-      by_count true f = let same_count : progress_here.complete ≡ items_here = grind (arith, nat_tests) in le-leb items_here progress_here.complete (omega arith)
-      by_count false f = absurd (e (counts_here ∙ ap (λ (t : Bool). if t then (state_at states mine.task).finished + 1 else (state_at states mine.task).finished) f))
+    pub done : (after_slot system now mine (slot_at system now) (with_root root (state_at states mine.task))).finished ≢ (state_at states mine.task).finished → is_finished system (slot_at system now ∷ slots system now) mine ≡ true
+    unfolding after_here
+    done e = finished_is_here ∙ by_count (progress_here.complete == items_here) refl
+      where
+        by_count : (b : Bool) → (progress_here.complete == items_here) ≡ b → nat_le items_here progress_here.complete ≡ true
+        by_count true f = let same_count : progress_here.complete ≡ items_here = grind (arith, nat_tests) in le-leb items_here progress_here.complete (omega arith)
+        by_count false f = absurd (e (counts_here ∙ ap (λ (t : Bool). if t then (state_at states mine.task).finished + 1 else (state_at states mine.task).finished) f))
 
-  -- what is kept after the slot
-  state_next : IsState system (Busy mine ∷ slots system now) (now + 1) mine.task after_here
-  unfolding after_here progress_here items_here
-  state_next =
-      let here = ap (λ (j : Job). Busy j ∷ slots system now) mine_is in
-      let e : progress system (job mine.task ((state_at states mine.task).finished + 1)) (Busy (job mine.task ((state_at states mine.task).finished + 1)) ∷ slots system now) ≡ progress_here
-      = ap (λ (j : Job). progress system j (Busy j ∷ slots system now)) (sym mine_is) ∙ progress_next in
-      subst (λ (past : List Slot). IsState system past (now + 1) mine.task after_here) (sym here)
-      (moved system (slots system now) (now + 1) mine.task (state_at states mine.task) state_here progress_here e few_here offered_here.released)
+    -- what is kept after the slot
+    state_next : IsState system (slot_at system now ∷ slots system now) (now + 1) mine.task after_here
+    unfolding after_here progress_here items_here
+    state_next =
+        let e : progress system (job mine.task ((state_at states mine.task).finished + 1)) (slot_at system now ∷ slots system now) ≡ progress_here
+        = ap (λ (j : Job). progress system j (slot_at system now ∷ slots system now)) (sym mine_is) ∙ progress_next in
+        moved system (slots system now) (now + 1) mine.task (slot_at system now) (with_root root (state_at states mine.task)) (owner_here ∙ ap (λ (j : Job). Some j) mine_is)
+        (rooted system (slots system now) (now + 1) mine.task root (state_at states mine.task) state_here) progress_here e few_here offered_here.released
 
-  states_next : AreStates system (Busy mine ∷ slots system now) (now + 1) (slice_set states mine.task after_here)
-  states_next = record {
-    of = kept.of;
-    count = length-set states mine.task after_here ∙ kept.count;
-    each = λ task known. elim (dec_le task mine.task) [
-      | yes below ↦ elim (dec_le mine.task task) [
-        | yes above ↦
-            let here : task ≡ mine.task = omega arith in
-            subst (IsState system (Busy mine ∷ slots system now) (now + 1) task) (sym (get_or-set_at states mine.task task after_here no_state here offered_here.task))
-            (subst (λ (t : ℕ). IsState system (Busy mine ∷ slots system now) (now + 1) t after_here) (sym here) state_next)
-        | no before ↦ other_state task known (λ e. absurd (omega arith))
-      ]
-      | no after ↦ other_state task known (λ e. absurd (omega arith))
-    ];
-  }
-    where
-      other_state : (task : ℕ) → task < length system.tasks → mine.task ≢ task → IsState system (Busy mine ∷ slots system now) (now + 1) task (state_at (slice_set states mine.task after_here) task)
-      other_state task known apart =
-          subst (IsState system (Busy mine ∷ slots system now) (now + 1) task) (sym (get_or-set_other states mine.task task after_here no_state (λ e. apart (sym e))))
-          (state_stays system (slots system now) (now + 1) task mine.task mine.number (state_at states task) (kept.each task known) apart)
+    states_next : AreStates system (slot_at system now ∷ slots system now) (now + 1) (slice_set states mine.task after_here)
+    states_next = record {
+      of = kept.of;
+      count = length-set states mine.task after_here ∙ kept.count;
+      each = λ task known. elim (dec_le task mine.task) [
+        | yes below ↦ elim (dec_le mine.task task) [
+          | yes above ↦
+              let here : task ≡ mine.task = omega arith in
+              subst (IsState system (slot_at system now ∷ slots system now) (now + 1) task) (sym (get_or-set_at states mine.task task after_here no_state here offered_here.task))
+              (subst (λ (t : ℕ). IsState system (slot_at system now ∷ slots system now) (now + 1) t after_here) (sym here) state_next)
+          | no before ↦ other_state task known (λ e. absurd (omega arith))
+        ]
+        | no after ↦ other_state task known (λ e. absurd (omega arith))
+      ];
+    }
+      where
+        other_state : (task : ℕ) → task < length system.tasks → mine.task ≢ task → IsState system (slot_at system now ∷ slots system now) (now + 1) task (state_at (slice_set states mine.task after_here) task)
+        other_state task known apart =
+            subst (IsState system (slot_at system now ∷ slots system now) (now + 1) task) (sym (get_or-set_other states mine.task task after_here no_state (λ e. apart (sym e))))
+            (state_stays system (slots system now) (now + 1) task (slot_at system now) mine (state_at states task) owner_here (kept.each task known) apart)
 
-  pub states_after : AreStates system (slots system (now + 1)) (now + 1) (slice_set states mine.task (after_tick system now mine (state_at states mine.task)))
-  unfolding after_here
-  states_after = subst (λ (past : List Slot). AreStates system past (now + 1) (slice_set states mine.task after_here)) (sym slots_here) states_next
+    pub states_after : AreStates system (slots system (now + 1)) (now + 1) (slice_set states mine.task (after_slot system now mine (slot_at system now) (with_root root (state_at states mine.task))))
+    unfolding after_here
+    states_after = subst (λ (past : List Slot). AreStates system past (now + 1) (slice_set states mine.task after_here)) (sym slots_here) states_next
 
-  same_released : (after_tick system now mine (state_at states mine.task)).released ≡ (state_at states mine.task).released
-  same_released = released_after (length (task_of system mine).items) (state_at states mine.task)
-      (tick_made (ends_work (item_at system mine (state_at states mine.task).complete) (state_at states mine.task).made) now (state_at states mine.task))
+    same_released : (after_slot system now mine (slot_at system now) (with_root root (state_at states mine.task))).released ≡ (state_at states mine.task).released
+    same_released = released_after (length (task_of system mine).items) (with_root root (state_at states mine.task))
+        (after system mine now (slot_at system now) (progress_of (state_at states mine.task)))
 
-  same_next : (after_tick system now mine (state_at states mine.task)).next ≡ (state_at states mine.task).next
-  same_next = next_after (length (task_of system mine).items) (state_at states mine.task)
-      (tick_made (ends_work (item_at system mine (state_at states mine.task).complete) (state_at states mine.task).made) now (state_at states mine.task))
+    same_next : (after_slot system now mine (slot_at system now) (with_root root (state_at states mine.task))).next ≡ (state_at states mine.task).next
+    same_next = next_after (length (task_of system mine).items) (with_root root (state_at states mine.task))
+        (after system mine now (slot_at system now) (progress_of (state_at states mine.task)))
 
-  more_finished : (state_at states mine.task).finished ≤ (after_tick system now mine (state_at states mine.task)).finished
-  unfolding after_here
-  more_finished = by_count (progress_here.complete == items_here) refl
-    where
-      by_count : (b : Bool) → (progress_here.complete == items_here) ≡ b → (state_at states mine.task).finished ≤ (after_tick system now mine (state_at states mine.task)).finished
-      by_count true f = omega (arith, counts_here ∙ ap (λ (t : Bool). if t then (state_at states mine.task).finished + 1 else (state_at states mine.task).finished) f)
-      by_count false f = omega (arith, counts_here ∙ ap (λ (t : Bool). if t then (state_at states mine.task).finished + 1 else (state_at states mine.task).finished) f)
+    more_finished : (state_at states mine.task).finished ≤ (after_slot system now mine (slot_at system now) (with_root root (state_at states mine.task))).finished
+    unfolding after_here
+    more_finished = by_count (progress_here.complete == items_here) refl
+      where
+        by_count : (b : Bool) → (progress_here.complete == items_here) ≡ b → (state_at states mine.task).finished ≤ (after_slot system now mine (slot_at system now) (with_root root (state_at states mine.task))).finished
+        by_count true f = omega (arith, counts_here ∙ ap (λ (t : Bool). if t then (state_at states mine.task).finished + 1 else (state_at states mine.task).finished) f)
+        by_count false f = omega (arith, counts_here ∙ ap (λ (t : Bool). if t then (state_at states mine.task).finished + 1 else (state_at states mine.task).finished) f)
 
-  pub best_after : (after_tick system now mine (state_at states mine.task)).finished ≡ (state_at states mine.task).finished
-      → best_of system (length system.tasks) (slice_set states mine.task (after_tick system now mine (state_at states mine.task))) ≡ best_of system (length system.tasks) states
-  best_after e = best_set system states mine.task (after_tick system now mine (state_at states mine.task)) offered_here.task
-      (ap (λ (n : ℕ). nat_lt n (after_tick system now mine (state_at states mine.task)).released) e ∙ ap (nat_lt (state_at states mine.task).finished) same_released)
-      e (length system.tasks)
+    pub best_after : (after_slot system now mine (slot_at system now) (with_root root (state_at states mine.task))).finished ≡ (state_at states mine.task).finished
+        → best_of system (length system.tasks) (slice_set states mine.task (after_slot system now mine (slot_at system now) (with_root root (state_at states mine.task)))) ≡ best_of system (length system.tasks) states
+    best_after e = best_set system states mine.task (after_slot system now mine (slot_at system now) (with_root root (state_at states mine.task))) offered_here.task
+        (ap (λ (n : ℕ). nat_lt n (after_slot system now mine (slot_at system now) (with_root root (state_at states mine.task))).released) e ∙ ap (nat_lt (state_at states mine.task).finished) same_released)
+        e (length system.tasks)
 
-  pub due_after : (watch : ℕ) → AreBeforeDue system (now + 1) watch states → AreBeforeDue system (now + 1) watch (slice_set states mine.task (after_tick system now mine (state_at states mine.task)))
-  due_after watch watched = due_set system (now + 1) watch states mine.task (after_tick system now mine (state_at states mine.task)) offered_here.task same_released more_finished watched
+    pub due_after : (watch : ℕ) → AreBeforeDue system (now + 1) watch states → AreBeforeDue system (now + 1) watch (slice_set states mine.task (after_slot system now mine (slot_at system now) (with_root root (state_at states mine.task))))
+    due_after watch watched = due_set system (now + 1) watch states mine.task (after_slot system now mine (slot_at system now) (with_root root (state_at states mine.task))) offered_here.task same_released more_finished watched
 
-  pub release_after : (watch : ℕ) → AreBeforeRelease system watch states → AreBeforeRelease system watch (slice_set states mine.task (after_tick system now mine (state_at states mine.task)))
-  release_after watch watched = release_set system watch states mine.task (after_tick system now mine (state_at states mine.task)) offered_here.task same_next watched
+    pub release_after : (watch : ℕ) → AreBeforeRelease system watch states → AreBeforeRelease system watch (slice_set states mine.task (after_slot system now mine (slot_at system now) (with_root root (state_at states mine.task))))
+    release_after watch watched = release_set system watch states mine.task (after_slot system now mine (slot_at system now) (with_root root (state_at states mine.task))) offered_here.task same_next watched
 
   pub job_here : now < 2 ^ 40 → IsJob system mine
   job_here early = record {
@@ -416,15 +401,13 @@ module _ (system : System) (now : ℕ) (states : List State) (kept : AreStates s
 
   -- what is told of the slot
   last_here : last_job (slots system (now + 1)) ≡ Some mine
-  last_here = ap last_job slots_here
+  last_here = ap last_job slots_here ∙ owner_here
 
   pub last_after : (last : Option Job) → last ≡ Some mine → last ≡ last_job (slots system (now + 1))
   last_after last e = e ∙ sym last_here
 
-  pub told_here : decision system (slots system now) (slot_at system now) ++ finish system (slots system now) (slot_at system now) ≡ finished_in system (slots system now) (slot_at system now) (Some mine)
-  told_here =
-      ap (λ (slot : Slot). decision system (slots system now) slot ++ finish system (slots system now) (slot_at system now)) slot_here
-      ∙ ap (λ (o : Option Job). finished_in system (slots system now) (slot_at system now) o) (ap job_in slot_here)
+  pub finish_here : finish system (slots system now) (slot_at system now) ≡ finished_in system (slots system now) (slot_at system now) (Some mine)
+  finish_here = ap (finished_in system (slots system now) (slot_at system now)) owner_here
 
 -- a known job
 pub known_some : (system : System) (o : Option Job) (mine : Job) → o ≡ Some mine → IsJob system mine → ForSome o (IsJob system)
@@ -435,7 +418,7 @@ known_none system o e = λ x f. absurd (none_not x (sym e ∙ f))
 
 -- an idle slot
 module _ (system : System) (now : ℕ) (states : List State) (kept : AreStates system (slots system now) (now + 1) states) (best : best_of system (length system.tasks) states ≡ None) where
-  slot_idle : next_slot system (slots system now) ≡ Idle
+  pub slot_idle : next_slot system (slots system now) ≡ Idle
   slot_idle = idle_slot system (slots system now) (chosen_is system now states kept ∙ best)
 
   slots_idle : slots system (now + 1) ≡ Idle ∷ slots system now

@@ -156,7 +156,7 @@ module _ (system : System) (past : List Slot) (job : Job) where
   pub own_slot : IsOwn system past job (slot_of system past (Some job))
   own_slot = by_item (slot_of system past (Some job)) (item_in system past job) refl refl
 
-other_slot : (system : System) (past : List Slot) (job : Job) (slot : Slot) → ((other : Job) → job_in slot ≡ Some other → same other job ≡ false) → IsOther system past job slot
+pub other_slot : (system : System) (past : List Slot) (job : Job) (slot : Slot) → ((other : Job) → job_in slot ≡ Some other → same other job ≡ false) → IsOther system past job slot
 other_slot system past job Idle h = record { stays = refl; none = refl; kept = refl }
 other_slot system past job (Busy other) h =
     let not_mine : same other job ≡ false = h other refl in record {

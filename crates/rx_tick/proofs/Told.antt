@@ -16,7 +16,7 @@ use Rattle.rx_tick.specs.declared.states.State.{State}
 use Rattle.rx_tick.specs.declared.events.Event.TheVariants.{Miss, Release}
 use Rattle.rx_tick.specs.Schedule.{Slot, Progress, is_finished, jobs_of, slots}
 use Rattle.rx_tick.specs.Events.{is_missed, is_released_at, misses, releases}
-use Rattle.rx_tick.specs.States.{job, IsState, IsBeforeDue, AreBeforeDue, AreBeforeRelease, AreStates, is_late_at, no_state, state_at, misses_at, releases_at}
+use Rattle.rx_tick.specs.States.{job, IsState, IsBeforeDue, AreBeforeDue, AreBeforeRelease, AreStates, is_late_at, in_hand, no_state, state_at, misses_at, releases_at}
 use Rattle.rx_tick.proofs.Prefixes.{slots_count}
 use Rattle.rx_tick.proofs.Lists.{none_of, only_of, told_of, told_more}
 
@@ -342,4 +342,16 @@ pub between_few : (system : System) (past : List Slot) (time tasks : ℕ) (state
 between_few system past time tasks states kept valid task known = elim (dec_le (task + 1) tasks) [
   | yes below ↦ released_bound system past (time + 1) task (state_at states task) (kept.done task (omega arith)) valid known
   | no above ↦ omega (arith, released_bound system past time task (state_at states task) (kept.rest task (omega arith) known) valid known)
+]
+
+-- a write of a state that says the same of the item in hand
+pub hands_write : (states : List State) (task : ℕ) (new : State) (other : ℕ) → task < length states → in_hand new ≡ in_hand (state_at states task) → in_hand (state_at (slice_set states task new) other) ≡ in_hand (state_at states other)
+hands_write states task new other inside e = elim (dec_le other task) [
+  | yes below ↦ elim (dec_le task other) [
+    | yes above ↦
+        let here : other ≡ task = omega arith in
+        ap in_hand (get_or-set_at states task other new no_state here inside) ∙ e ∙ ap (λ (t : ℕ). in_hand (state_at states t)) (sym here)
+    | no before ↦ ap in_hand (get_or-set_other states task other new no_state (λ f. absurd (omega arith)))
+  ]
+  | no after ↦ ap in_hand (get_or-set_other states task other new no_state (λ f. absurd (omega arith)))
 ]

@@ -2,17 +2,19 @@
 use Rattle.std.specs.Prelude.{ℕ, zero, suc, ◌≡◌, ◌==◌, ◌&&◌, ◌+◌, ◌<◌, ◌≤◌, ◌^◌, Bool, true, if◌then◌else◌, nat_lt, Option, None, List, [], length, get_or, map, filter}
 use Rattle.std.specs.Option.{ForSome}
 use Rattle.rx_set.specs.declared.jobs.Job.{Job}
-use Rattle.rx_set.specs.System.{System, TaskRow, task_at, task_of, item_at, release, due}
+use Rattle.rx_set.specs.System.{System, TaskRow, AreCells, task_at, task_of, release, due}
 use Rattle.rx_set.specs.Valid.{IsJob, IsValid}
-use Rattle.rx_tick.specs.Schedule.{Slot, Progress, sooner, start, progress, is_finished, completed, ticked, ends_work, slots, jobs_of}
+use Rattle.rx_tick.specs.Schedule.{Slot, Progress, sooner, start, after, progress, is_finished, completed, lost, ticked, slots, jobs_of}
 use Rattle.rx_tick.specs.Events.{last_job, is_missed, is_released_at}
 use Rattle.rx_tick.specs.declared.events.Event.{Event}
 use Rattle.rx_tick.specs.declared.events.Event.TheVariants.{Miss, Release}
 use Rattle.rx_tick.specs.declared.states.State.{State}
+use Rattle.rx_tick.specs.declared.states.Made.{Made}
+use Rattle.rx_tick.specs.declared.states.Made.TheVariants.{On, Ended, Lost}
 use Rattle.rx_tick.specs.declared.turns.Turn.{Turn}
 
 abbrev pub no_state : State
-no_state = record { released = 0; next = 0; finished = 0; complete = 0; made = 0; first = 0 }
+no_state = record { released = 0; next = 0; finished = 0; complete = 0; made = 0; first = 0; root = 0 }
 
 abbrev pub state_at : List State → ℕ → State
 state_at states task = get_or states task no_state
@@ -32,14 +34,14 @@ pub record IsState (system : System) (past : List Slot) (time task : ℕ) (s : S
   pub last : 1 ≤ s.released → release system (job task s.released) < time
   pub order : s.finished ≤ s.released
 
--- a valid system with no objects and no demand rows: its items are work, and take the ticks that they state
-pub record IsWorkSystem (system : System) : Type 0 where
+-- the systems that the executive serves: valid ones whose objects are cells, with no demand rows
+pub record IsCellSystem (system : System) : Type 0 where
   pub valid : IsValid system
-  pub no_objects : system.objects ≡ []
+  pub cells : AreCells system
   pub no_demands : system.demands ≡ []
 
 pub record AreStates (system : System) (past : List Slot) (time : ℕ) (states : List State) : Type 0 where
-  pub of : IsWorkSystem system
+  pub of : IsCellSystem system
   pub count : length states ≡ length system.tasks
   pub each : (task : ℕ) → task < length system.tasks → IsState system past time task (state_at states task)
 
@@ -61,9 +63,11 @@ pub record IsOffered (states : List State) (job : Job) : Type 0 where
 abbrev pub progress_of : State → Progress
 progress_of s = record { complete = s.complete; made = s.made; first = s.first }
 
--- the progress after a tick that ends the item in hand or does not
-abbrev pub tick_made : Bool → ℕ → State → Progress
-tick_made ends now s = if ends then completed (progress_of s) else ticked now (progress_of s)
+-- the progress after a tick that brought the item in hand further, completed it or lost its attempt
+abbrev pub progress_made : Made → ℕ → Progress → Progress
+progress_made On now p = ticked now p
+progress_made Ended now p = completed p
+progress_made Lost now p = lost p
 
 -- the state after a tick that brings its started job to this progress, where its body has so many items
 abbrev pub with_progress : ℕ → State → Progress → State
@@ -71,10 +75,17 @@ with_progress items s p =
     if p.complete == items then record s { finished = s.finished + 1; complete = 0; made = 0; first = 0 }
     else record s { complete = p.complete; made = p.made; first = p.first }
 
--- the state of a job's task after a tick of this job, which is its started one
-abbrev pub after_tick : System → ℕ → Job → State → State
-after_tick system now mine s =
-    with_progress (length (task_of system mine).items) s (tick_made (ends_work (item_at system mine s.complete) s.made) now s)
+-- the same state, with the root that an attempt loaded
+abbrev pub with_root : ℕ → State → State
+with_root root s = record s { root = root }
+
+-- what a state says of the item in hand
+abbrev pub in_hand : State → State
+in_hand s = record s { released = 0; next = 0 }
+
+-- the state of a job's task after a slot of this job, which is its started one
+abbrev pub after_slot : System → ℕ → Job → Slot → State → State
+after_slot system now mine slot s = with_progress (length (task_of system mine).items) s (after system mine now slot (progress_of s))
 
 -- from now on the task has no unfinished job that is due before this time
 abbrev pub IsBeforeDue : System → ℕ → ℕ → ℕ → State → Type 0
@@ -112,10 +123,10 @@ releases_at system now task = map (Release now) (filter (is_released_at system n
 
 -- the first unfinished job of each task can be asked for its key
 pub record AreOffers (system : System) (states : List State) : Type 0 where
-  pub of : IsWorkSystem system
+  pub of : IsCellSystem system
   pub count : length states ≡ length system.tasks
   pub few : (task : ℕ) → task < length system.tasks → (state_at states task).released ≤ 2 ^ 40
 
 -- the state of a task before the first slot
 abbrev pub first_state_of : TaskRow → State
-first_state_of row = record { released = 0; next = row.offset; finished = 0; complete = 0; made = 0; first = 0 }
+first_state_of row = record { released = 0; next = row.offset; finished = 0; complete = 0; made = 0; first = 0; root = 0 }

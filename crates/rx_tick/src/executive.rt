@@ -1,15 +1,21 @@
 // The executive.
-ghost use Rattle.std.specs.Prelude.{◌≡◌, ◌<◌, ◌+◌, ◌^◌, IfOk, None, []};
+ghost use Rattle.std.specs.Prelude.{◌≡◌, ◌<◌, ◌+◌, ◌^◌, IfOk, Some, None, []};
+ghost use Rattle.rx_port.specs.Seats.{no_counts};
+ghost use Rattle.rx_set.specs.System.{AreCells};
+ghost use Rattle.rx_tick.specs.Banks.{IsBankOf, Touches};
+ghost use Rattle.rx_tick.specs.Executive.{moment};
 ghost use Rattle.rx_tick.specs.States.{AreStates, IsTurn, first_state_of};
 ghost use Rattle.rx_set.specs.View.{row_of};
 ghost use Rattle.rx_tick.specs.Schedule.{slots, slot_at, job_in};
 ghost use Rattle.rx_tick.specs.Events.{events_of, misses};
 
 use crate::looks::tell_misses;
+use crate::objects::Objects;
 use crate::slots::make_slot;
 use crate::states::State;
 use crate::ticks::Tick;
 use crate::turns::Turn;
+use rx_port::Bank;
 use rx_seq::NoMemory;
 use rx_set::{Task, TaskSet};
 use std::alloc::Global;
@@ -26,11 +32,13 @@ fn first_state(task: &Task) -> State
         complete: 0,
         made: 0,
         first: 0,
+        root: 0,
     }
 }
 
 /// The states of all tasks before the first slot.
 fn first_states(alloc: Global, set: &TaskSet) -> Result<Vec<State>, NoMemory>
+    requires { AreCells set.now }
     ensures states { IfOk result (λ states. AreStates set.now [] 0 states.items) }
     ensures turn { IfOk result (λ states. IsTurn set.now 0 states.items (record { next_release = 0; next_due = 0; best = None; last = None })) }
 {
@@ -56,22 +64,27 @@ pub struct Executive<'s> {
     time: u64,
     states: Vec<State>,
     turn: Turn,
+    objects: Objects,
 }
 
 impl<'s> Model for Executive<'s> {
-    ghost use Rattle.rx_tick.specs.Executive.{Moment, IsExecutive};
+    ghost use Rattle.rx_tick.specs.Executive.{Moment, IsExecutive, moment};
 
     ghost Value = { Moment };
 
-    ghost view = { λ e. record { system = e.set.now; time = e.time } };
+    ghost view = { λ e. moment e.set.now e.time e.objects.bank };
 
-    ghost invariant = { λ e. IsExecutive e.set.now e.time e.states.items e.turn };
+    ghost invariant = { λ e. IsExecutive e.set.now e.time e.states.items e.turn e.objects.bank };
 }
 
 impl<'s> Executive<'s> {
-    /// The executive of a set before its first slot. It takes memory for each task.
-    pub fn new(alloc: Global, set: &'s TaskSet) -> Result<Executive<'s>, NoMemory>
-        ensures { IfOk result (λ e. e ≡ record { system = set.now; time = 0 }) }
+    /// The executive of a set before its first slot, on a new bank: one with the set's objects, whose tags start at 0, a
+    /// seat for each task, and no event yet. In this version each object is a cell. It takes memory for each task.
+    pub fn new(alloc: Global, set: &'s TaskSet, bank: Bank) -> Result<Executive<'s>, NoMemory>
+        requires cells { AreCells set.now }
+        requires bank { IsBankOf set.now [] bank }
+        requires counts { bank.core.counts ≡ Some no_counts }
+        ensures { IfOk result (λ e. e ≡ moment set.now 0 bank) }
     {
         let states = match first_states(alloc, set) {
             Ok(states) => states,
@@ -87,6 +100,7 @@ impl<'s> Executive<'s> {
                 best: None,
                 last: None,
             },
+            objects: Objects::new(bank),
         })
     }
 
@@ -98,20 +112,23 @@ impl<'s> Executive<'s> {
     }
 
     /// Makes the next slot, and tells it and its events: misses and releases in file order of the tasks, preemption,
-    /// reply or retry, finish. It takes no memory. Where no job is released or finished and none can be missed, its
-    /// cost is constant, and else it grows with the number of tasks.
+    /// reply or retry, finish. The first tick of an attempt makes one load on the bank and the last one exchange; a slot
+    /// that belongs to no attempt touches nothing. It takes no memory. Where no job is released or finished and none can
+    /// be missed, its cost is constant, and else it grows with the number of tasks.
     pub fn tick(&mut self, out: &mut Tick)
         requires { self.old.time < 2 ^ 40 }
         ensures at { out.new.at ≡ self.old.time }
         ensures slot { out.new.slot ≡ job_in (slot_at self.old.system self.old.time) }
         ensures events { out.new.events.items ≡ events_of self.old.system (slots self.old.system self.old.time) (slot_at self.old.system self.old.time) }
-        ensures next { self.new ≡ record { system = self.old.system; time = self.old.time + 1 } }
+        ensures next { self.new ≡ moment self.old.system (self.old.time + 1) self.new.bank }
+        ensures touches { Touches self.old.system (slots self.old.system self.old.time) (slot_at self.old.system self.old.time) self.old.bank.core.counts self.new.bank.core.counts }
     {
         out.at = self.time;
         out.events.clear();
         make_slot(
             self.set,
             &mut self.states,
+            &mut self.objects,
             &mut self.turn,
             self.time,
             &mut out.events,
@@ -131,5 +148,14 @@ impl<'s> Executive<'s> {
         out.slot = None;
         out.events.clear();
         tell_misses(self.set, self.states.as_slice(), self.time, &mut out.events);
+    }
+
+    /// Gives the bank back, which has the set's objects and a seat for each task and stands for the history of the
+    /// schedule: the tag of each object is the number of its entries, and its state is their replay.
+    pub fn into_bank(self) -> Bank
+        ensures bank { result ≡ self.entry.bank }
+        ensures history { IsBankOf self.entry.system (slots self.entry.system self.entry.time) result }
+    {
+        self.objects.bank
     }
 }

@@ -5,6 +5,7 @@ mod events;
 mod executive;
 pub mod laws;
 mod looks;
+mod objects;
 mod slots;
 mod states;
 mod ticks;

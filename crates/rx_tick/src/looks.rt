@@ -5,7 +5,7 @@ ghost use Rattle.arrayvec.specs.ArrayVec.{array_vec_len};
 ghost use Rattle.rx_set.specs.Valid.{IsJob};
 ghost use Rattle.rx_tick.specs.Schedule.{slots, sooner};
 ghost use Rattle.rx_tick.specs.Events.{misses, releases};
-ghost use Rattle.rx_tick.specs.States.{AreStates, IsState, IsBeforeDue, AreBeforeDue, AreBeforeRelease, AreOffers, IsWorkSystem, offer, with_offer, best_of, state_at, misses_at, releases_at, is_late_at};
+ghost use Rattle.rx_tick.specs.States.{AreStates, IsState, IsBeforeDue, AreBeforeDue, AreBeforeRelease, AreOffers, IsCellSystem, offer, with_offer, best_of, in_hand, state_at, misses_at, releases_at, is_late_at};
 ghost use Rattle.rx_set.specs.System.{task_at, is_below as key_below};
 
 use crate::events::Event;
@@ -16,7 +16,7 @@ use rx_set::{Job, Key, TaskSet};
 
 /// Whether the latest job that a task released is unfinished, and due now.
 fn is_late(set: &TaskSet, state: State, task: usize, now: u64) -> bool
-    requires of { IsWorkSystem set.now }
+    requires of { IsCellSystem set.now }
     requires known { task < length set.now.tasks }
     requires now { now ≤ 2 ^ 40 }
     requires state { IsState set.now (slots set.now now) now task state }
@@ -28,7 +28,7 @@ fn is_late(set: &TaskSet, state: State, task: usize, now: u64) -> bool
 
 /// Tells the miss of a task, if it has one at this time: only the latest job that it released can be due.
 fn tell_miss(set: &TaskSet, state: State, task: usize, now: u64, events: &mut ArrayVec<Event, 131>)
-    requires of { IsWorkSystem set.now }
+    requires of { IsCellSystem set.now }
     requires known { task < length set.now.tasks }
     requires now { now ≤ 2 ^ 40 }
     requires state { IsState set.now (slots set.now now) now task state }
@@ -61,7 +61,7 @@ pub fn tell_misses(set: &TaskSet, states: &[State], now: u64, events: &mut Array
 
 /// When the unfinished job that a task released latest is due, if that is after this time.
 fn due_after(set: &TaskSet, state: State, task: usize, now: u64) -> u64
-    requires of { IsWorkSystem set.now }
+    requires of { IsCellSystem set.now }
     requires known { task < length set.now.tasks }
     requires now { now ≤ 2 ^ 40 }
     requires state { IsState set.now (slots set.now now) now task state }
@@ -146,7 +146,7 @@ fn count_release(
     now: u64,
     events: &mut ArrayVec<Event, 131>,
 ) -> State
-    requires of { IsWorkSystem set.now }
+    requires of { IsCellSystem set.now }
     requires known { task < length set.now.tasks }
     requires now { now < 2 ^ 40 }
     requires state { IsState set.now (slots set.now now) now task state }
@@ -154,7 +154,7 @@ fn count_release(
     requires best { ForSome turn.old.best (IsJob set.now) }
     requires room { array_vec_len events.old < 131 }
     ensures state { IsState set.now (slots set.now now) (now + 1) task result }
-    ensures same { result.finished ≡ state.finished }
+    ensures same { in_hand result ≡ in_hand state }
     ensures released { state.released ≤ result.released }
     ensures due { IsBeforeDue set.now (now + 1) turn.new.next_due task result }
     ensures sooner { turn.new.next_due ≤ turn.old.next_due }
@@ -190,7 +190,7 @@ fn look_at_release(
     now: u64,
     events: &mut ArrayVec<Event, 131>,
 )
-    requires of { IsWorkSystem set.now }
+    requires of { IsCellSystem set.now }
     requires known { task < length set.now.tasks }
     requires inside { task < length states.old }
     requires now { now < 2 ^ 40 }
@@ -200,7 +200,7 @@ fn look_at_release(
     requires room { array_vec_len events.old < 131 }
     ensures write { states.new ≡ slice_set states.old task (state_at states.new task) }
     ensures state { IsState set.now (slots set.now now) (now + 1) task (state_at states.new task) }
-    ensures same { (state_at states.new task).finished ≡ (state_at states.old task).finished }
+    ensures same { in_hand (state_at states.new task) ≡ in_hand (state_at states.old task) }
     ensures released { (state_at states.old task).released ≤ (state_at states.new task).released }
     ensures due { IsBeforeDue set.now (now + 1) turn.new.next_due task (state_at states.new task) }
     ensures sooner { turn.new.next_due ≤ turn.old.next_due }
@@ -230,6 +230,7 @@ fn count_releases(
     requires dues { AreBeforeDue set.now (now + 1) turn.old.next_due states.old }
     requires room { array_vec_len events.old ≤ 64 }
     ensures states { AreStates set.now (slots set.now now) (now + 1) states.new }
+    ensures same { (task : ℕ) → in_hand (state_at states.new task) ≡ in_hand (state_at states.old task) }
     ensures best { turn.new.best ≡ best_of set.now (length set.now.tasks) states.new }
     ensures dues { AreBeforeDue set.now (now + 1) turn.new.next_due states.new }
     ensures releases { AreBeforeRelease set.now result states.new }
@@ -260,6 +261,7 @@ pub fn look_at_releases(
     requires releases { AreBeforeRelease set.now turn.old.next_release states.old }
     requires room { array_vec_len events.old ≤ 64 }
     ensures states { AreStates set.now (slots set.now now) (now + 1) states.new }
+    ensures same { (task : ℕ) → in_hand (state_at states.new task) ≡ in_hand (state_at states.old task) }
     ensures best { turn.new.best ≡ best_of set.now (length set.now.tasks) states.new }
     ensures dues { AreBeforeDue set.now (now + 1) turn.new.next_due states.new }
     ensures releases { AreBeforeRelease set.now turn.new.next_release states.new }
@@ -275,7 +277,7 @@ pub fn look_at_releases(
 
 /// The sooner of a job and the one that a task offers, which is its first unfinished job if that is released.
 fn offer_of(set: &TaskSet, best: Option<Job>, state: State, task: usize) -> Option<Job>
-    requires of { IsWorkSystem set.now }
+    requires of { IsCellSystem set.now }
     requires known { task < length set.now.tasks }
     requires best { ForSome best (IsJob set.now) }
     requires few { state.released ≤ 2 ^ 40 }

@@ -5,8 +5,8 @@ use Rattle.rx_set.specs.Valid.{IsJob}
 use Rattle.rx_tick.specs.declared.events.Event.{Event}
 use Rattle.rx_tick.specs.Schedule.{slots}
 use Rattle.rx_tick.specs.declared.states.State.{State}
-use Rattle.rx_tick.specs.States.{AreBeforeDue, AreOffers, best_of, state_at, with_offer}
-use Rattle.rx_tick.proofs.Told.{AreBetween, releases_more, releases_all, append_more, between_more, between_few, due_write, next_write}
+use Rattle.rx_tick.specs.States.{AreBeforeDue, AreOffers, best_of, in_hand, state_at, with_offer}
+use Rattle.rx_tick.proofs.Told.{AreBetween, releases_more, releases_all, append_more, between_more, between_few, due_write, next_write, hands_write}
 use Rattle.rx_tick.proofs.Chosen.{best_known}
 use Rattle.rx_tick.proofs.Joins.{best_with}
 use Rattle.rx_tick.proofs.looks.count_releases.Goals as goal
@@ -22,6 +22,7 @@ loop-task-init c = record {
   best = c.requires.best;
   dues = c.requires.dues;
   next = λ task below. absurd (omega arith);
+  same = λ task. refl;
   last = refl;
   few = omega arith;
 }
@@ -54,7 +55,7 @@ loop-task-preserved c =
       best =
           c.look_at_release.ensures.best
           ∙ ap (λ (b : Option Job). with_offer system b task (state_at old task) new) c.loop-task.invariant.best
-          ∙ sym (best_with system old task new inside (omega (arith, c.requires.states.count)) c.look_at_release.ensures.same c.look_at_release.ensures.released)
+          ∙ sym (best_with system old task new inside (omega (arith, c.requires.states.count)) (ap (λ (s : State). s.finished) c.look_at_release.ensures.same) c.look_at_release.ensures.released)
           ∙ ap (best_of system (length system.tasks)) write;
       dues = subst (AreBeforeDue system (c.args.now + 1) c.look_at_release.new.turn.next_due) write
           (due_write system (c.args.now + 1) c.loop-task.turn.next_due _ old task new inside c.loop-task.invariant.dues c.look_at_release.ensures.sooner c.look_at_release.ensures.due);
@@ -62,6 +63,8 @@ loop-task-preserved c =
           let there = next_write old task c.loop-task.next new inside c.loop-task.invariant.next other below in
           let here = subst (λ (xs : List State). min c.loop-task.next new.next ≤ (state_at xs other).next) write there in
           omega (arith, here);
+      same = λ other.
+          ap (λ (xs : List State). in_hand (state_at xs other)) (sym write) ∙ hands_write old task new other inside c.look_at_release.ensures.same ∙ c.loop-task.invariant.same other;
       last = c.look_at_release.ensures.last ∙ c.loop-task.invariant.last;
       few = omega (arith, c.loop-task.invariant.few, c.look_at_release.ensures.few);
     }

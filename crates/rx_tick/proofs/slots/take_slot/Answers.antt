@@ -1,7 +1,7 @@
-use Rattle.std.proofs.Common.{◌∙◌, ◌++◌, List, ap, sym}
-use Rattle.rx_tick.specs.declared.events.Event.{Event}
+use Rattle.std.proofs.Common.{◌∙◌, sym}
 use Rattle.rx_tick.proofs.Told.{append_none}
-use Rattle.rx_tick.proofs.Moves.{job_here, last_after, told_here, known_some, known_none, states_idle, last_idle, told_idle}
+use Rattle.rx_tick.proofs.Moves.{job_here, last_after, known_some, known_none, states_idle, last_idle, told_idle}
+use Rattle.rx_tick.proofs.Kept.{kept_idle, touches_idle}
 use Rattle.rx_tick.proofs.slots.take_slot.Goals as goal
 
 pub returns-in-Some-clause-turn : goal.returns-in-Some-clause-turn
@@ -15,13 +15,14 @@ returns-in-Some-clause-turn c =
           (job_here c.args.set.now c.args.now c.args.states.now c.requires.states c.in-Some.job best c.requires.now);
     }
 
-pub returns-in-Some-clause-told : goal.returns-in-Some-clause-told
-returns-in-Some-clause-told c =
-    c.give_slot.ensures.told
-    ∙ ap (λ (es : List Event). c.args.events.now.items ++ es) (sym (told_here c.args.set.now c.args.now c.args.states.now c.requires.states c.in-Some.job (sym c.requires.best ∙ c.in-Some.is)))
-
 pub returns-in_default-clause-states : goal.returns-in_default-clause-states
 returns-in_default-clause-states c = states_idle c.args.set.now c.args.now c.args.states.now c.requires.states (sym c.requires.best ∙ c.in_default.is)
+
+pub returns-in_default-clause-kept : goal.returns-in_default-clause-kept
+returns-in_default-clause-kept c = kept_idle c.args.set.now c.args.now c.args.states.now c.requires.states (sym c.requires.best ∙ c.in_default.is) c.args.objects.now.bank c.requires.kept
+
+pub returns-in_default-clause-touches : goal.returns-in_default-clause-touches
+returns-in_default-clause-touches c = touches_idle c.args.set.now c.args.now c.args.states.now c.requires.states (sym c.requires.best ∙ c.in_default.is) c.args.objects.now.bank c.requires.kept
 
 pub returns-in_default-clause-turn : goal.returns-in_default-clause-turn
 returns-in_default-clause-turn c = record {
