@@ -9,11 +9,11 @@ use crate::replies::push_reply;
 use rx_set::TaskSet;
 use rx_tick::Event;
 
-/// Appends what an event tells, which is at most 200 bytes.
+/// Appends what an event tells, which is at most 298 bytes.
 fn push_event(set: &TaskSet, event: &Event, line: &mut Line)
-    requires { length line.old.items + 200 ≤ 1024 }
+    requires { length line.old.items + 298 ≤ 1024 }
     ensures text { line.new.items ≡ line.old.items ++ event_text set.now event.now }
-    ensures few { length line.new.items ≤ length line.old.items + 200 }
+    ensures few { length line.new.items ≤ length line.old.items + 298 }
 {
     match *event {
         Event::Miss { at, job } => push_told(set, at, b" miss ", job, line),
