@@ -9,6 +9,8 @@ mod jobs;
 mod lines;
 mod objects;
 mod replies;
+#[cfg(test)]
+mod tests;
 mod totals;
 
 pub use events::event_line;
