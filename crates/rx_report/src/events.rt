@@ -62,8 +62,8 @@ fn push_event(set: &TaskSet, event: &Event, line: &mut Line)
 /// - `N reply T J I C -> Y tag G`: the item and what it asks for, the reply, and the object's new tag,
 /// - `N retry T J I O tag E now F`: the item and its object, the tag that was expected, and the one that was found.
 ///
-/// The text of a task, an item or an object that the set has not is empty, and item 0 stands for item 1. It takes no
-/// memory, and its cost is that of the bytes written.
+/// It can be asked of every event: the text of a task or an item that the set has not is empty, and so is the object of an
+/// item of work, and item 0 stands for item 1. It takes no memory, and its cost is that of the bytes written.
 pub fn event_line(set: &TaskSet, event: &Event, out: &mut Line)
     ensures { out.new.items ≡ event_line set.now event.now }
 {

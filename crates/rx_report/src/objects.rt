@@ -29,9 +29,10 @@ fn push_kind(line: &mut Line, kind: Kind)
     }
 }
 
-/// Makes `out` the line of an object, which is named by its number from 0: `object O K tag G state`, a space and a number
-/// for each number of the state, and a line feed. `O` is its name, `K` the word of its kind: `cell`, `queue`, `list` or
-/// `registers`. What stood in `out` is gone. It takes no memory, and its cost is that of the bytes written.
+/// Makes `out` the line of an object of the set, which is named by its number from 0: `object O K tag G state`, then a
+/// space and a number for each number of the state, and a line feed. `O` is its name, and `K` the word of its kind: `cell`,
+/// `queue`, `list` or `registers`. What stood in `out` is gone. There is room for every tag and every state. It takes no
+/// memory, and its cost is that of the bytes written.
 pub fn object_line(set: &TaskSet, object: u32, tag: u64, state: &State, out: &mut Line)
     requires { object < length set.now.objects }
     ensures { out.new.items ≡ object_line set.now object tag state.now.items }
