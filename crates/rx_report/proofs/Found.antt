@@ -1,12 +1,12 @@
--- The items of a valid set, and the objects that they call.
+-- The items of a valid set, and the rows of a transaction that fits.
 use Rattle.std.proofs.Common.{ℕ, ◌≡◌, ◌<◌, ◌≤◌, List, length, get_or, map, ap, sym, subst, ◌∙◌, None, Some, true, IfSome, Bor, arith}
+use Rattle.std.proofs.lemmas.Bool.Decides.{nat_tests}
 use Rattle.std.proofs.lemmas.List.{get_or-map, length-map}
 use Rattle.std.proofs.lemmas.List.Elements.{All-from_get_or}
 use Rattle.std.proofs.lemmas.Option.{slice_get-get_or}
 use Rattle.std.specs.declared.option.Option.{Option}
 use Rattle.std.specs.List.{All}
 use Rattle.std.specs.Slice.{IsItemAt}
-use Rattle.std.proofs.lemmas.Bool.Decides.{nat_tests}
 use Rattle.rx_seq.specs.declared.kinds.Kind.{Kind}
 use Rattle.rx_seq.specs.declared.kinds.Kind.TheVariants.{Cell, Queue, Registers, List as Ordered}
 use Rattle.rx_seq.specs.declared.kinds.Part.{Part}
@@ -20,11 +20,13 @@ use Rattle.rx_set.specs.System.{System, TaskRow, no_task, task_at}
 use Rattle.rx_set.specs.Valid.{IsValid, IsItem}
 use Rattle.rx_set.specs.View.{row_of}
 
+-- each item of a task of a valid system is one of the system
 all_items : (system : System) (task : ℕ) → IsValid system → task < length system.tasks → All (IsItem system) (task_at system task).items
 all_items system task valid known =
     All-from_get_or (IsItem system) (task_at system task).items (Work 0)
     (λ place inside. (valid.tasks task known).items place _ (slice_get-get_or (task_at system task).items place (Work 0) inside))
 
+-- the row of a task that was read
 row_read : (system : System) (tasks : List Task) (k : ℕ) (task : Task) → map row_of tasks ≡ system.tasks → k < length tasks → task ≡ get_or tasks k task → task_at system k ≡ row_of task
 row_read system tasks k task rows inside read =
     ap (λ (all : List TaskRow). get_or all k no_task) (sym rows) ∙ get_or-map row_of tasks k task no_task inside ∙ ap row_of (sym read)
