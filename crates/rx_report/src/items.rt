@@ -1,17 +1,19 @@
 // The text of an item.
 ghost use Rattle.std.specs.Prelude.{◌≡◌, ◌≤◌, ◌+◌, ◌++◌, length, Some, None, IfSome, IfNone};
-ghost use Rattle.rx_set.specs.Valid.{IsWork};
+ghost use Rattle.rx_set.specs.Valid.{IsItem};
 ghost use Rattle.rx_report.specs.Lines.{item_of, item_text, object_text};
 
+use crate::calls::push_call;
 use crate::jobs::task_of;
 use crate::lines::{Line, push_number, push_text};
+use crate::objects::object_at;
 use rx_set::{Item, Job, TaskSet};
 
-/// An item of a job, by its number from 1. A set without objects has no operations.
+/// An item of a job, by its number from 1. If it is an operation, it calls an object of the set, and the call fits.
 fn item_of(set: &TaskSet, job: Job, item: u32) -> Option<&Item>
     ensures found { IfSome result (λ found. item_of set.now job item ≡ Some found.now) }
     ensures none { IfNone result (item_of set.now job item ≡ None) }
-    ensures work { IfSome result (λ found. IsWork found.now) }
+    ensures valid { IfSome result (λ found. IsItem set.now found.now) }
 {
     match task_of(set, job) {
         Some(task) => task.body.items().get(item.saturating_sub(1) as usize),
@@ -19,18 +21,18 @@ fn item_of(set: &TaskSet, job: Job, item: u32) -> Option<&Item>
     }
 }
 
-/// Appends what an item asks for, and nothing where there is no such item.
+/// Appends what an item asks for, which is at most 155 bytes, and nothing where there is no such item.
 pub(crate) fn push_item(set: &TaskSet, job: Job, item: u32, line: &mut Line)
-    requires { length line.old.items + 25 ≤ 1024 }
+    requires { length line.old.items + 155 ≤ 1024 }
     ensures text { line.new.items ≡ line.old.items ++ item_text set.now (item_of set.now job item) }
-    ensures few { length line.new.items ≤ length line.old.items + 25 }
+    ensures few { length line.new.items ≤ length line.old.items + 155 }
 {
     match item_of(set, job, item) {
         Some(Item::Work { n }) => {
             push_text(line, b"work ");
             push_number(line, *n);
         }
-        Some(Item::Op { .. }) => unreachable!(),
+        Some(Item::Op { object, call }) => push_call(line, object_at(set, *object), call),
         None => {}
     }
 }
@@ -43,7 +45,9 @@ pub(crate) fn push_object(set: &TaskSet, job: Job, item: u32, line: &mut Line)
     ensures few { length line.new.items ≤ length line.old.items + 16 }
 {
     match item_of(set, job, item) {
-        Some(Item::Op { .. }) => unreachable!(),
+        Some(Item::Op { object, .. }) => {
+            push_text(line, object_at(set, *object).name.as_str().as_bytes());
+        }
         Some(Item::Work { .. }) | None => {}
     }
 }

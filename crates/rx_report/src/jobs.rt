@@ -1,18 +1,18 @@
 // The text of a job.
 ghost use Rattle.std.specs.Prelude.{◌≡◌, ◌≤◌, ◌+◌, ◌++◌, length, All, IfSome, IfNone};
 ghost use Rattle.rx_set.specs.System.{no_task, task_of};
-ghost use Rattle.rx_set.specs.Valid.{IsWork};
+ghost use Rattle.rx_set.specs.Valid.{IsItem};
 ghost use Rattle.rx_set.specs.View.{row_of};
 ghost use Rattle.rx_report.specs.Lines.{job_text, told, told_item};
 
 use crate::lines::{Line, push_field, push_number, push_spaced, push_text};
 use rx_set::{Job, Task, TaskSet};
 
-/// The task of a job, if the set has it. A set without objects has no operations.
+/// The task of a job, if the set has it. Each of its items is one of the set, which is valid.
 pub(crate) fn task_of(set: &TaskSet, job: Job) -> Option<&Task>
     ensures found { IfSome result (λ task. row_of task.now ≡ task_of set.now job) }
     ensures none { IfNone result (task_of set.now job ≡ no_task) }
-    ensures work { IfSome result (λ task. All IsWork task.now.body) }
+    ensures valid { IfSome result (λ task. All (IsItem set.now) task.now.body) }
 {
     set.tasks().get(job.task as usize)
 }

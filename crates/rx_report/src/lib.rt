@@ -2,13 +2,18 @@
 //! `specs/Lines.antt` and `specs/Report.antt`.
 #![tactic(auto)]
 
+mod calls;
 mod events;
 mod items;
 mod jobs;
 mod lines;
+mod objects;
 mod replies;
+#[cfg(test)]
+mod tests;
 mod totals;
 
 pub use events::event_line;
 pub use lines::Line;
+pub use objects::object_line;
 pub use totals::total_line;

@@ -1,5 +1,6 @@
 // Appending to a line.
-ghost use Rattle.std.specs.Prelude.{◌≡◌, ◌≤◌, ◌+◌, ◌++◌, length, decimal};
+ghost use Rattle.std.specs.List.{flat_map};
+ghost use Rattle.std.specs.Prelude.{◌≡◌, ◌≤◌, ◌+◌, ◌*◌, ◌++◌, length, decimal};
 ghost use Rattle.rx_report.specs.Lines.{spaced};
 
 use arrayvec::ArrayVec;
@@ -47,4 +48,26 @@ pub(crate) fn push_field(line: &mut Line, text: &[u8], n: u64)
 {
     push_text(line, text);
     push_spaced(line, n);
+}
+
+/// Appends a space and a number of 32 bits, which has at most 10 digits.
+fn push_value(line: &mut Line, value: u32)
+    requires { length line.old.items + 11 ≤ 1024 }
+    ensures text { line.new.items ≡ line.old.items ++ spaced value }
+    ensures few { length line.new.items ≤ length line.old.items + 11 }
+{
+    let mut buffer = Buffer::new();
+    push_text(line, b" ");
+    push_text(line, buffer.format(value).as_bytes());
+}
+
+/// Appends numbers of 32 bits, and a space before each.
+pub(crate) fn push_values(line: &mut Line, values: &[u32])
+    requires { length line.old.items + 11 * length values.now ≤ 1024 }
+    ensures text { line.new.items ≡ line.old.items ++ flat_map spaced values.now }
+    ensures few { length line.new.items ≤ length line.old.items + 11 * length values.now }
+{
+    for value in values {
+        push_value(line, *value);
+    }
 }

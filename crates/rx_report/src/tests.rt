@@ -1,0 +1,185 @@
+// The lines of one set, which has a cell and registers.
+ghost use Rattle.std.specs.Prelude.{◌≡◌, ◌<◌, length, IfOk};
+
+use super::*;
+use rx_seq::{Call, Kind, Part, Reply, Row, State};
+use rx_set::{Body, Item, Job, Name, Object, Policy, Task, TaskSet};
+use rx_tick::Event;
+use std::alloc::Global;
+use std::test::Fail;
+
+/// A task that works, calls a cell, and calls registers.
+fn shared(alloc: Global) -> Result<TaskSet, Fail>
+    ensures { IfOk result (λ set. length set.objects ≡ 2) }
+{
+    let cell = Object {
+        name: Name::from("c")?,
+        part: Part {
+            kind: Kind::Cell,
+            cap: 1,
+        },
+    };
+    let registers = Object {
+        name: Name::from("registers_of_all")?,
+        part: Part {
+            kind: Kind::Registers,
+            cap: 4,
+        },
+    };
+    let one = Row {
+        i: 3,
+        old: 7,
+        new: u32::MAX,
+    };
+    let task = Task {
+        name: Name::from("a")?,
+        period: 100,
+        deadline: 100,
+        offset: 1,
+        body: Body::of(vec![in alloc;
+            Item::Work { n: 30 },
+            Item::Op {
+                object: 0,
+                call: Call::Swap { old: 1, new: 2 }
+            },
+            Item::Op {
+                object: 1,
+                call: Call::Multi {
+                    count: 1,
+                    rows: [one, Row::default(), Row::default(), Row::default()]
+                }
+            },
+        ]?),
+    };
+    Ok(TaskSet::build(
+        Policy::Rm,
+        vec![in alloc; cell, registers]?,
+        vec![in alloc; task]?,
+    ))
+}
+
+#[test]
+fn writes_events(rt: HostRuntime) -> Result<(), Fail> {
+    let job = Job { task: 0, number: 1 };
+    let last = Job {
+        task: 0,
+        number: u64::MAX,
+    };
+    let none = Job { task: 1, number: 3 };
+    let cases: [(Event, &[u8]); 9] = [
+        (Event::Miss { at: 8, job }, b"8 miss a 1\n"),
+        (
+            Event::Release {
+                at: u64::MAX,
+                job: last,
+            },
+            b"18446744073709551615 release a 18446744073709551615\n",
+        ),
+        (
+            Event::Preempt {
+                at: 1,
+                job: last,
+                by: job,
+            },
+            b"1 preempt a 18446744073709551615 by a 1\n",
+        ),
+        (Event::Finish { at: 0, job: none }, b"0 finish  3\n"),
+        (
+            Event::Reply {
+                at: 9,
+                first: 7,
+                job,
+                item: 1,
+                reply: Reply::Empty,
+                tag: 0,
+            },
+            b"9 reply a 1 1 work 30 -> empty tag 0\n",
+        ),
+        (
+            Event::Reply {
+                at: 9,
+                first: 7,
+                job,
+                item: 2,
+                reply: Reply::Differs { v: 6 },
+                tag: 5,
+            },
+            b"9 reply a 1 2 swap c 1 2 -> differs 6 tag 5\n",
+        ),
+        (
+            Event::Reply {
+                at: 9,
+                first: 7,
+                job,
+                item: 3,
+                reply: Reply::Done { v: 1 },
+                tag: 1,
+            },
+            b"9 reply a 1 3 multi registers_of_all 3 7 4294967295 -> done 1 tag 1\n",
+        ),
+        (
+            Event::Retry {
+                at: 4,
+                first: 1,
+                job,
+                item: 2,
+                expected: 0,
+                found: 1,
+            },
+            b"4 retry a 1 2 c tag 0 now 1\n",
+        ),
+        (
+            Event::Retry {
+                at: 4,
+                first: 1,
+                job,
+                item: 4,
+                expected: 0,
+                found: 1,
+            },
+            b"4 retry a 1 4  tag 0 now 1\n",
+        ),
+    ];
+    let set = shared(rt.alloc())?;
+    let mut line = Line::new();
+    for (event, text) in cases {
+        event_line(&set, &event, &mut line);
+        assert_eq!(rt; line.as_slice(), text);
+    }
+    Ok(())
+}
+
+/// Makes the line of an object whose state has these numbers.
+fn line_of(
+    set: &TaskSet,
+    object: u32,
+    tag: u64,
+    numbers: &[u32],
+    line: &mut Line,
+) -> Result<(), Fail>
+    requires { object < length set.now.objects }
+{
+    let mut state = State::new();
+    state.try_extend_from_slice(numbers)?;
+    object_line(set, object, tag, &state, line);
+    Ok(())
+}
+
+#[test]
+fn writes_objects(rt: HostRuntime) -> Result<(), Fail> {
+    let set = shared(rt.alloc())?;
+    let mut line = Line::new();
+    line_of(&set, 0, 2, &[16777215], &mut line)?;
+    assert_eq!(rt;
+        line.as_slice(),
+        b"object c cell tag 2 state 16777215\n".as_slice()
+    );
+    line_of(&set, 1, 1_099_511_627_775, &[0, u32::MAX, 70, 0], &mut line)?;
+    assert_eq!(rt;
+        line.as_slice(),
+        b"object registers_of_all registers tag 1099511627775 state 0 4294967295 70 0\n".as_slice()
+    );
+    line_of(&set, 0, 0, &[], &mut line)?;
+    assert_eq!(rt; line.as_slice(), b"object c cell tag 0 state\n".as_slice());
+    Ok(())
+}
