@@ -1,15 +1,17 @@
 -- The events of a bank.
-use Rattle.std.proofs.Common.{◌≡◌, ℕ, zero, suc, ◌+◌, ◌<◌, true, cond, List, [], ◌∷◌, length, set, get_or, map, refl, sym, ap, ◌∙◌, subst, arith}
+use Rattle.std.proofs.Common.{◌≡◌, ℕ, zero, suc, ◌+◌, ◌<◌, true, cond, List, [], ◌∷◌, length, set, get_or, map, refl, sym, ap, ◌∙◌, subst, ⊎_elim, arith}
 use Rattle.std.specs.Prelude.{◌==◌, slice_index, slice_index_or, Option, Some, None}
 use mathlib.Core.Option.{some, some-ne-none, some-injective}
 use lib.ListN.{get_elem?}
 use Rattle.std.proofs.lemmas.List.{map-set, get_or_read, get_or-map, get_or-set_same, length-set, length-map}
 use Rattle.rx_seq.specs.declared.calls.Call.{Call}
 use Rattle.rx_seq.specs.declared.entries.Entry.{Entry}
+use Rattle.rx_seq.specs.Table.{fits_part}
 use Rattle.rx_seq.specs.History.{part_at}
 use Rattle.rx_shape.specs.declared.plans.Pair.{Pair}
 use Rattle.rx_shape.specs.Forms.{InRange, stock_size}
-use Rattle.rx_shape.specs.Layout.{Layout, IsLayout, home, root_of, words_of}
+use Rattle.rx_shape.specs.Layout.{Layout, home, root_of, words_of}
+use Rattle.rx_shape.specs.Asks.{EachBelow}
 use Rattle.rx_shape.specs.Versions.{NotWritten}
 use Rattle.rx_shape.proofs.Times.{times_at}
 use Rattle.rx_shape.proofs.Numbering.{in_words, root_in_words}
@@ -20,21 +22,16 @@ use Rattle.rx_port.specs.declared.views.View.{View}
 use Rattle.rx_port.specs.declared.desks.Desk.{Desk}
 use Rattle.rx_port.specs.Core.{own_of, one_load, one_store, one_exchange, new_attempt, begun_view, read_view, written_view, entry_for, decided_view, traded_own}
 use Rattle.rx_port.specs.Lawful.{Lawful}
-use Rattle.rx_port.specs.Events.{Found, Begun, DidRead, DidWrite, Decided, IsDecision, OwnsWell}
-use Rattle.rx_port.specs.Plain.{view_of, plain_core, nobody, view_at, whole_of, IsBank, IsPlain}
+use Rattle.rx_port.specs.Events.{Found, Begun, DidRead, DidWrite, Decided, IsPlanOf, IsHopeless, IsDecision, OwnsWell}
+use Rattle.rx_port.specs.Plain.{view_of, plain_core, nobody, view_at, Whole, whole_of, IsPlainView, IsBank, IsSeatOf}
 use Rattle.rx_port.proofs.Lists.{here_or}
 use Rattle.rx_port.proofs.Placing.{placed_at}
 use Rattle.rx_port.proofs.Lawfully.{begun_lawful, read_lawful, write_lawful, decided_lawful}
 
-pub is_plain : (desks : List Desk) (i : ℕ) (v : View) → get_elem? (map view_of desks) i ≡ some v → v.known ≡ None
+pub is_plain : (desks : List Desk) (i : ℕ) (v : View) → get_elem? (map view_of desks) i ≡ some v → IsPlainView v
 is_plain [] i v e = absurd (some-ne-none v (sym e))
-is_plain (d ∷ desks) zero v e = sym (ap (λ (x : View). x.known) (some-injective (view_of d) v e))
+is_plain (d ∷ desks) zero v e = subst IsPlainView (some-injective (view_of d) v e) (record { known = refl; live = refl; joined = refl })
 is_plain (d ∷ desks) (suc i) v e = is_plain desks i v e
-
-is_live : (desks : List Desk) (i : ℕ) (v : View) → get_elem? (map view_of desks) i ≡ some v → v.live ≡ true
-is_live [] i v e = absurd (some-ne-none v (sym e))
-is_live (d ∷ desks) zero v e = sym (ap (λ (x : View). x.live) (some-injective (view_of d) v e))
-is_live (d ∷ desks) (suc i) v e = is_live desks i v e
 
 -- a live seat of lawful words and seats owns well
 pub owns_from : (l : Layout) (words : List ℕ) (views : List View) (es : List Entry) (i : ℕ) (v : View) → Lawful l words views es → v.live ≡ true → get_elem? views i ≡ some v → OwnsWell l v
@@ -44,6 +41,18 @@ owns_from l words views es i v h alive at = record {
   ranges = λ o p there more. h.inside o p there (let k = placed_at l o p views i v at in omega arith);
   once = λ o p there. let k = placed_at l o p views i v at in let q = h.places o p there in omega arith;
 }
+
+-- each seat of a bank is one of its seats
+pub seat_from : (b : Whole) → IsBank b → (i : ℕ) → i < length b.core.views → IsSeatOf b i
+seat_from b h i at =
+    let v : View = view_at b.core i in
+    let here = here_or b.core.views i nobody at in
+    let alive : v.live ≡ true = (h.plain i v here).live in
+    record { there = at; plain = h.plain; number = (h.lawful.seats i v here).numbered alive; owns = owns_from b.layout b.core.words b.core.views h.history i v h.lawful alive here }
+
+-- a trade names own places
+pub pairs_below : (l : Layout) (v : View) (a : Attempt) (new : ℕ) (pairs : List Pair) → IsDecision l v a new pairs → EachBelow (stock_size (part_at l.parts a.object)) pairs
+pairs_below l v a new pairs d = ⊎_elim (λ (p : IsPlanOf l v a new pairs). p.below) (λ (p : IsHopeless l a pairs). subst (EachBelow (stock_size (part_at l.parts a.object))) (sym p.none) tt) d.case
 
 pub own_in_words : (l : Layout) (v : View) (o k : ℕ) → OwnsWell l v → o < length l.parts → k < stock_size (part_at l.parts o) → (k < length (own_of v o)) × (slice_index (own_of v o) k < words_of l)
 own_in_words l v o k h there below =
@@ -58,7 +67,7 @@ module _ (l : Layout) (words : List ℕ) (desks : List Desk) (counts : Counts) (
   here = here_or (map view_of desks) i nobody at
 
   alive : (view_at (plain_core words desks counts) i).live ≡ true
-  alive = is_live desks i (view_at (plain_core words desks counts) i) here
+  alive = (is_plain desks i (view_at (plain_core words desks counts) i) here).live
 
   -- the seat as the code reads it
   pub desk_is : (d : Desk) → d ≡ get_or desks i d → view_of d ≡ view_at (plain_core words desks counts) i
@@ -71,21 +80,18 @@ module _ (l : Layout) (words : List ℕ) (desks : List Desk) (counts : Counts) (
   core_now words' counts' d n w same e = λ k. record { words = words'; views = (ap (λ (m : ℕ). set (map view_of desks) m w) same ∙ ap (λ (x : View). set (map view_of desks) i x) (sym e) ∙ sym (map-set view_of desks i d)) k; counts = Some counts' }
 
   -- what is lawful after an event is so for the bank
-  pub kept : (words' : List ℕ) (counts' : Counts) (d : Desk) (w : View) (es : List Entry) → IsLayout l → view_of d ≡ w → Lawful l words' (set (map view_of desks) i w) es → IsBank (whole_of l words' (set desks i d) counts')
-  kept words' counts' d w es limits e h = record {
-    limits = limits;
+  kept : (words' : List ℕ) (counts' : Counts) (d : Desk) (w : View) (es : List Entry) → IsBank (whole_of l words desks counts) → view_of d ≡ w → Lawful l words' (set (map view_of desks) i w) es → IsBank (whole_of l words' (set desks i d) counts')
+  kept words' counts' d w es was e h = record {
+    limits = was.limits;
+    many = ap length (map-set view_of desks i d) ∙ length-set (map view_of desks) i (view_of d) ∙ was.many;
+    plain = is_plain (set desks i d);
     history = es;
     lawful = subst (λ (vs : List View). Lawful l words' vs es) (ap (λ (x : View). set (map view_of desks) i x) (sym e) ∙ sym (map-set view_of desks i d)) h;
   }
 
-  -- the seat is still one of the bank
-  pub still_ours : (words' : List ℕ) (counts' : Counts) (d : Desk) → IsBank (whole_of l words' (set desks i d) counts')
-      → (i < length (map view_of (set desks i d))) × IsPlain (plain_core words' (set desks i d) counts') × OwnsWell l (view_at (plain_core words' (set desks i d) counts') i)
-  still_ours words' counts' d h =
-      let in_range : i < length (map view_of (set desks i d)) = rw (map-set view_of desks i d, length-set (map view_of desks) i (view_of d)) at in
-      let there = here_or (map view_of (set desks i d)) i nobody in_range in
-      let u : View = view_at (plain_core words' (set desks i d) counts') i in
-      (in_range, is_plain (set desks i d), owns_from l words' (map view_of (set desks i d)) h.history i u h.lawful (is_live (set desks i d) i u there) there)
+  -- a seat is still one of the bank
+  pub still_ours : (words' : List ℕ) (counts' : Counts) (d : Desk) → IsBank (whole_of l words' (set desks i d) counts') → (j : ℕ) → j < length (map view_of desks) → IsSeatOf (whole_of l words' (set desks i d) counts') j
+  still_ours words' counts' d h j in_range = seat_from (whole_of l words' (set desks i d) counts') h j (rw (map-set view_of desks i d, length-set (map view_of desks) i (view_of d)) in_range)
 
   module _ (h : IsBank (whole_of l words desks counts)) (d old : Desk) (was : old ≡ get_or desks i old) where
     old_is : view_of old ≡ view_at (plain_core words desks counts) i
@@ -100,12 +106,12 @@ module _ (l : Layout) (words : List ℕ) (desks : List Desk) (counts : Counts) (
     found : Found l (λ c. c ≡ plain_core words desks counts) (view_at (plain_core words desks counts) i) (plain_core words desks counts) h.history
     found = record { stands = refl; lawful = h.lawful; alive = alive; here = subst (λ (n : ℕ). get_elem? (map view_of desks) n ≡ some (view_at (plain_core words desks counts) i)) (sym number_is) here }
 
-    pub began_from : (o : ℕ) (call : Call) (root : ℕ) → o < length l.parts → root ≡ root_of words o → view_of d ≡ record (view_of old) { attempt = Some (new_attempt o call root) }
+    pub began_from : (o : ℕ) (call : Call) (root : ℕ) → o < length l.parts → fits_part (part_at l.parts o) call ≡ true → root ≡ root_of words o → view_of d ≡ record (view_of old) { attempt = Some (new_attempt o call root) }
         → IsBank (whole_of l words (set desks i d) (one_load counts))
         × Begun l (λ c. c ≡ plain_core words desks counts) (λ c. c ≡ plain_core words (set desks i d) (one_load counts)) (view_at (plain_core words desks counts) i) (view_at (plain_core words (set desks i d) (one_load counts)) i) o call root
-    began_from o call root there is e =
+    began_from o call root there fits is e =
         let w : view_of d ≡ begun_view h.history (view_at (plain_core words desks counts) i) o call root = e ∙ ap (λ (x : View). begun_view h.history x o call root) old_is in (
-          kept words (one_load counts) d _ h.history h.limits w (begun_lawful l words (map view_of desks) h.history i _ o call root h.lawful here alive there is),
+          kept words (one_load counts) d _ h.history h w (begun_lawful l words (map view_of desks) h.history i _ o call root h.lawful here alive there fits is),
           record {
             core = plain_core words desks counts;
             history = h.history;
@@ -122,7 +128,7 @@ module _ (l : Layout) (words : List ℕ) (desks : List Desk) (counts : Counts) (
         × DidRead l (λ c. c ≡ plain_core words desks counts) (λ c. c ≡ plain_core words (set desks i d) (one_load counts)) (view_at (plain_core words desks counts) i) (view_at (plain_core words (set desks i d) (one_load counts)) i) a place word
     read_from a place word open_is is f =
         let e : view_of d ≡ read_view (view_at (plain_core words desks counts) i) a (record { place = place; word = word }) = f a (open_old a open_is) ∙ ap (λ (x : View). read_view x a (record { place = place; word = word })) old_is in (
-          kept words (one_load counts) d _ h.history h.limits e (read_lawful l words (map view_of desks) h.history i _ a (record { place = place; word = word }) h.lawful here alive open_is is),
+          kept words (one_load counts) d _ h.history h e (read_lawful l words (map view_of desks) h.history i _ a (record { place = place; word = word }) h.lawful here alive open_is is),
           record {
             core = plain_core words desks counts;
             history = h.history;
@@ -138,7 +144,7 @@ module _ (l : Layout) (words : List ℕ) (desks : List Desk) (counts : Counts) (
         × DidWrite l (λ c. c ≡ plain_core words desks counts) (λ c. c ≡ plain_core (set words (slice_index (own_of (view_at (plain_core words desks counts) i) a.object) own) value) (set desks i d) (one_store counts)) (view_at (plain_core words desks counts) i) (view_at (plain_core (set words (slice_index (own_of (view_at (plain_core words desks counts) i) a.object) own) value) (set desks i d) (one_store counts)) i) a own value
     did_write a own value open_is below new e =
         let words' : List ℕ = set words (slice_index (own_of (view_at (plain_core words desks counts) i) a.object) own) value in (
-          kept words' (one_store counts) d _ h.history h.limits e (write_lawful l words (map view_of desks) h.history i _ a (record { own = own; value = value }) h.lawful here alive open_is below new),
+          kept words' (one_store counts) d _ h.history h e (write_lawful l words (map view_of desks) h.history i _ a (record { own = own; value = value }) h.lawful here alive open_is below new),
           record {
             core = plain_core words desks counts;
             history = h.history;
@@ -165,7 +171,7 @@ module _ (l : Layout) (words : List ℕ) (desks : List Desk) (counts : Counts) (
         let n : Entry = entry_for l h.history i a.object a.call in
         let m : Entry = entry_for l h.history (view_at (plain_core words desks counts) i).number a.object a.call in
         let w : view_of d ≡ decided_view (word == a.expected) h.history n (view_at (plain_core words desks counts) i) a word pairs = e ∙ ap (λ (x : View). decided_view (word == a.expected) h.history n x a word pairs) old_is in (
-          kept words' (one_exchange counts) d _ _ h.limits w (decided_lawful l words (map view_of desks) h.history i _ a new word pairs h.lawful here alive is decision),
+          kept words' (one_exchange counts) d _ _ h w (decided_lawful l words (map view_of desks) h.history i _ a new word pairs h.lawful here alive is decision),
           record {
             core = plain_core words desks counts;
             history = h.history;
@@ -186,11 +192,3 @@ place_read l words views es o p r h there in_range e = get_or_read words p r (le
 -- a seat has one open attempt
 pub attempt_is : (x : Option Attempt) (a b : Attempt) → x ≡ Some a → x ≡ Some b → a ≡ b
 attempt_is x a b e d = cc
-
--- each seat of a bank is one of its seats
-pub ours_from : (l : Layout) (words : List ℕ) (desks : List Desk) (counts : Counts) (es : List Entry) (i : ℕ) → Lawful l words (map view_of desks) es → i < length (map view_of desks)
-    → (i < length (map view_of desks)) × IsPlain (plain_core words desks counts) × OwnsWell l (view_at (plain_core words desks counts) i)
-ours_from l words desks counts es i h at =
-    let there = here_or (map view_of desks) i nobody at in
-    let v : View = view_at (plain_core words desks counts) i in
-    (at, is_plain desks, owns_from l words (map view_of desks) es i v h (is_live desks i v there) there)

@@ -9,18 +9,20 @@ use native.Mathlib.Decide.{ℕ_discrete}
 use lib.ListN.{get_elem?}
 use Rattle.rx_seq.specs.declared.calls.Call.{Call}
 use Rattle.rx_seq.specs.declared.entries.Entry.{Entry}
-use Rattle.rx_seq.specs.Table.{effect}
+use Rattle.std.proofs.lemmas.List.Elements.{All-cons}
+use Rattle.rx_seq.specs.Table.{fits_part, effect}
 use Rattle.rx_seq.specs.History.{part_at, replay, tag_of as count_loud}
 use Rattle.rx_seq.specs.Legal.{entries_of}
+use Rattle.rx_seq.specs.States.{IsFitting}
 use Rattle.rx_shape.specs.declared.plans.Taken.{Taken}
 use Rattle.rx_shape.specs.declared.plans.Write.{Write}
 use Rattle.rx_shape.specs.declared.plans.Pair.{Pair}
 use Rattle.rx_shape.specs.Words.{tag_of}
-use Rattle.rx_shape.specs.Places.{times}
+use Rattle.rx_shape.specs.Places.{times, total}
 use Rattle.rx_shape.specs.Forms.{stock_size, InRange, live, decoded, IsVersion, IsStock}
 use Rattle.rx_shape.specs.Layout.{Layout, home, root_of}
 use Rattle.rx_shape.specs.Versions.{HasRead, NotWritten, traded, Makes, Plans, IsStale, Same}
-use Rattle.rx_shape.proofs.Times.{times_at}
+use Rattle.rx_shape.proofs.Times.{times_at, sum_set}
 use Rattle.rx_shape.proofs.Numbering.{one_range, not_root, in_words, root_in_words}
 use Rattle.rx_shape.proofs.Local.{local, stock_many, read_kept, read_more, written_kept, written_more}
 use Rattle.rx_port.specs.declared.views.Attempt.{Attempt}
@@ -29,8 +31,8 @@ use Rattle.rx_port.specs.declared.views.Known.{Known}
 use Rattle.rx_port.specs.declared.views.Joined.{Joined}
 use Rattle.rx_port.specs.declared.views.View.{View}
 use Rattle.rx_port.specs.Core.{tag_after, own_of, begun_known, begun_view, read_view, written_view, entry_for, history_after, decided_known, decided_view, exchange_of}
-use Rattle.rx_port.specs.Lawful.{IsOlder, placed, IsAttempt, IsKnown, IsView, IsJoined, Lawful, NoneUnmade}
-use Rattle.rx_port.specs.Events.{IsDecision}
+use Rattle.rx_port.specs.Lawful.{IsOlder, placed, IsAttempt, IsKnown, IsView, IsJoined, is_of, joined_in, NoneUnmade, Lawful}
+use Rattle.rx_port.specs.Events.{IsPlanOf, IsHopeless, IsDecision}
 use Rattle.rx_port.proofs.Lists.{at_set, inside_list, some_here, if_some}
 use Rattle.rx_port.proofs.Histories.{older-refl, older-more, count_here, count_there, state_here, state_there, mine_here, mine_there, legal_more}
 use Rattle.rx_port.proofs.Placing.{placed_at, placed_two, placed_set, placed_same}
@@ -55,6 +57,16 @@ module _ (l : Layout) (words : List ℕ) (views : List View) (es fs : List Entry
   pub few_set : length (set views i w) ≤ l.seats
   few_set = let e = length-set views i w in let f = h.few in omega arith
 
+  -- each seat that was joined is kept where it was
+  pub kept_set : (j : ℕ) (u : View) → get_elem? (set views i w) j ≡ some u → u.live ≡ false → total (joined_in j) (set views i w) ≡ 1
+  kept_set j u there dead = ⊎_elim
+      (λ (y : (j ≡ i) × (w ≡ u)). absurd (both_lives v k.alive (sym k.lives ∙ ap (λ (z : View). z.live) y.1 ∙ dead)))
+      (λ (y : (j ≢ i) × (get_elem? views j ≡ some u)).
+      let s : total (joined_in j) (set views i w) + joined_in j v ≡ total (joined_in j) views + joined_in j w = sum_set (joined_in j) views i v w at in
+      let same : joined_in j w ≡ joined_in j v = ap (total (is_of j)) k.joined in
+      let one = h.kept j u y.1 dead in omega arith)
+      (at_set views i j w u there)
+
   module _ (longer : (xs : List Entry) → IsOlder xs es → IsOlder xs fs) (mine : (j : ℕ) → j ≢ i → entries_of j fs ≡ entries_of j es) where
     -- a seat that was joined is another one
     joined_set : (x : Joined) → IsJoined l views es x → IsJoined l (set views i w) fs x
@@ -74,9 +86,15 @@ module _ (l : Layout) (words : List ℕ) (views : List View) (es fs : List Entry
         (λ (y : (j ≢ i) × (get_elem? views j ≡ some u)). joined_set x (h.joins j u y.1 n x is))
         (at_set views i j w u there)
 
+    -- no entry is of a seat that is not made
+    pub made_set : NoneUnmade (set views i w) fs
+    made_set j past =
+        let k = length-set views i w in let r = inside_list views i v at in mine j (λ (d : j ≡ i). absurd (omega arith)) ∙ h.made j (omega arith)
+
 pub view_lawful : (l : Layout) (words : List ℕ) (views : List View) (es : List Entry) (i : ℕ) (v w : View) → Lawful l words views es → get_elem? views i ≡ some v → Stays v w → w.own ≡ v.own → IsView l words es i w → Lawful l words (set views i w) es
 view_lawful l words views es i v w h at k same ok = record {
   legal = h.legal;
+  fitting = h.fitting;
   size = h.size;
   tags = h.tags;
   below = h.below;
@@ -87,6 +105,8 @@ view_lawful l words views es i v w h at k same ok = record {
   few = few_set l words views es es i v w h at k;
   seats = seats_set l words es views i w (λ j u _ e. h.seats j u e) ok;
   joins = joins_set l words views es es i v w h at k (λ xs x. x) (λ j ne. refl);
+  kept = kept_set l words views es es i v w h at k;
+  made = made_set l words views es es i v w h at k (λ xs x. x) (λ j ne. refl);
 }
 
 known_begun : (es : List Entry) (i : ℕ) (k : Option Known) → IfSome k (λ x. IsKnown es i x) → IfSome (option_map (begun_known es) k) (λ x. IsKnown es i x)
@@ -98,16 +118,16 @@ both_begun l es root o None h = tt
 both_begun l es root o (Some k) h = h
 
 -- begin
-pub begun_lawful : (l : Layout) (words : List ℕ) (views : List View) (es : List Entry) (i : ℕ) (v : View) (o : ℕ) (call : Call) (root : ℕ) → Lawful l words views es → get_elem? views i ≡ some v → v.live ≡ true → o < length l.parts → root ≡ root_of words o → Lawful l words (set views i (begun_view es v o call root)) es
-begun_lawful l words views es i v o call root h at alive there is =
+pub begun_lawful : (l : Layout) (words : List ℕ) (views : List View) (es : List Entry) (i : ℕ) (v : View) (o : ℕ) (call : Call) (root : ℕ) → Lawful l words views es → get_elem? views i ≡ some v → v.live ≡ true → o < length l.parts → fits_part (part_at l.parts o) call ≡ true → root ≡ root_of words o → Lawful l words (set views i (begun_view es v o call root)) es
+begun_lawful l words views es i v o call root h at alive there fits is =
     let s = h.seats i v at in
     let tag : tag_of root ≡ tag_after l es o = ap tag_of is ∙ h.tags o there in
     let most : tag_of root ≤ tag_after l es o = omega arith in
     view_lawful l words views es i v (begun_view es v o call root) h at (record { alive = alive; lives = refl; joined = refl }) refl (record {
       numbered = s.numbered;
       owns = s.owns;
-      spent = s.spent;
-      attempt = record { exists = there; at_most = most; same = λ _. is; fresh = λ _. tt; stands = tt };
+      spent = λ dead. absurd (both_lives v alive dead);
+      attempt = record { exists = there; fits = fits; at_most = most; same = λ _. is; fresh = λ _. tt; stands = tt };
       known = known_begun es i v.known s.known;
       both = both_begun l es root o v.known most;
     })
@@ -123,8 +143,8 @@ read_lawful l words views es i v a r h at alive is_open is =
     view_lawful l words views es i v (read_view v a r) h at (record { alive = alive; lives = refl; joined = refl }) refl (record {
       numbered = s.numbered;
       owns = s.owns;
-      spent = s.spent;
-      attempt = record { exists = t.exists; at_most = t.at_most; same = t.same; fresh = λ e. read_more (live (home l a.object) a.expected words) words a.reads r (t.fresh e) (sym is); stands = t.stands };
+      spent = λ dead. absurd (both_lives v alive dead);
+      attempt = record { exists = t.exists; fits = t.fits; at_most = t.at_most; same = t.same; fresh = λ e. read_more (live (home l a.object) a.expected words) words a.reads r (t.fresh e) (sym is); stands = t.stands };
       known = s.known;
       both = some_here (λ x. IfSome v.known (λ k. tag_of x.expected ≤ tag_after l k.seen x.object)) v.attempt a is_open s.both;
     })
@@ -153,6 +173,7 @@ view_still l words words' es j u k ok own s = record {
   spent = s.spent;
   attempt = if_some (λ a. IsAttempt l words es u.own a) (λ a. IsAttempt l words' es u.own a) u.attempt (λ a _ t. record {
     exists = t.exists;
+    fits = t.fits;
     at_most = t.at_most;
     same = λ e. t.same e ∙ sym (k.roots a.object t.exists);
     fresh = fresh_still l words words' a k t.exists (ok a.object t.exists) t.fresh;
@@ -228,9 +249,10 @@ module _ (l : Layout) (words : List ℕ) (views : List View) (es : List Entry) (
   written_ok = let s = h.seats i v at in record {
     numbered = s.numbered;
     owns = s.owns;
-    spent = s.spent;
+    spent = λ dead. absurd (both_lives v alive dead);
     attempt = record {
       exists = mine.exists;
+      fits = mine.fits;
       at_most = mine.at_most;
       same = λ e. mine.same e ∙ sym (still.roots a.object mine.exists);
       fresh = fresh_still l words now a still mine.exists (h.versions a.object mine.exists) mine.fresh;
@@ -244,6 +266,7 @@ module _ (l : Layout) (words : List ℕ) (views : List View) (es : List Entry) (
   unfolding now place
   write_lawful = record {
     legal = h.legal;
+    fitting = h.fitting;
     size = length-set words place w.value ∙ h.size;
     tags = λ o there. ap tag_of (still.roots o there) ∙ h.tags o there;
     below = h.below;
@@ -256,6 +279,8 @@ module _ (l : Layout) (words : List ℕ) (views : List View) (es : List Entry) (
     few = few_set l words views es es i v (written_view v a w) h at (record { alive = alive; lives = refl; joined = refl });
     seats = seats_set l now es views i (written_view v a w) (λ j u ne e. view_still l words now es j u still h.versions (others_own j u ne e) (h.seats j u e)) written_ok;
     joins = joins_set l words views es es i v (written_view v a w) h at (record { alive = alive; lives = refl; joined = refl }) (λ xs x. x) (λ j ne. refl);
+    kept = kept_set l words views es es i v (written_view v a w) h at (record { alive = alive; lives = refl; joined = refl });
+    made = made_set l words views es es i v (written_view v a w) h at (record { alive = alive; lives = refl; joined = refl }) (λ xs x. x) (λ j ne. refl);
   }
 
 -- decide, where another root stands
@@ -267,7 +292,7 @@ decided_lost : (l : Layout) (words : List ℕ) (views : List View) (es : List En
 decided_lost l words views es i v a e found pairs h at alive =
     let s = h.seats i v at in
     subst (λ (now : List ℕ). Lawful l now (set views i (decided_view false es e v a found pairs)) es) (sym (set-get_or words (a.object + 1) 0))
-    (view_lawful l words views es i v (decided_view false es e v a found pairs) h at (record { alive = alive; lives = refl; joined = refl }) refl (record { numbered = s.numbered; owns = s.owns; spent = s.spent; attempt = tt; known = known_lost es e (exchange_of a found) i v.known s.known; both = tt }))
+    (view_lawful l words views es i v (decided_view false es e v a found pairs) h at (record { alive = alive; lives = refl; joined = refl }) refl (record { numbered = s.numbered; owns = s.owns; spent = λ dead. absurd (both_lives v alive dead); attempt = tt; known = known_lost es e (exchange_of a found) i v.known s.known; both = tt }))
 
 -- decide, where the expected root stands
 module _ (l : Layout) (words : List ℕ) (views : List View) (es : List Entry) (i : ℕ) (v : View) (a : Attempt) (new found : ℕ) (pairs : List Pair) (h : Lawful l words views es) (at : get_elem? views i ≡ some v) (alive : v.live ≡ true) (t : IsAttempt l words es v.own a) (is : root_of words a.object ≡ a.expected)
@@ -365,6 +390,7 @@ module _ (l : Layout) (words : List ℕ) (views : List View) (es : List Entry) (
       let late : tag_of (root_of after_words b.object) ≡ tag_after l (e ∷ es) b.object = (one_tag b.object s.exists (yes d)).0 in
       record {
         exists = s.exists;
+        fits = s.fits;
         at_most = omega arith;
         same = λ q. absurd (omega arith);
         fresh = λ q. let q' = ap tag_of q in absurd (omega arith);
@@ -372,6 +398,7 @@ module _ (l : Layout) (words : List ℕ) (views : List View) (es : List Entry) (
       }
   other_attempt u b own s (no ne) = let more = count_there l es i a.object a.call b.object ne in record {
     exists = s.exists;
+    fits = s.fits;
     at_most = let m = s.at_most in omega arith;
     same = λ q. s.same (omega arith) ∙ sym (other_root b.object ne);
     fresh = λ q.
@@ -415,6 +442,7 @@ module _ (l : Layout) (words : List ℕ) (views : List View) (es : List Entry) (
   decided_won : Lawful l after_words (set views i w) (e ∷ es)
   decided_won = record {
     legal = legal_more l es i a.object a.call h.legal;
+    fitting = All-cons (IsFitting l.parts) e es (record { exists = t.exists; fits = t.fits }) h.fitting;
     size = length-set words (a.object + 1) new ∙ h.size;
     tags = λ q there. (one_tag q there (ℕ_discrete q a.object)).0;
     below = λ q there. (one_tag q there (ℕ_discrete q a.object)).1;
@@ -425,6 +453,8 @@ module _ (l : Layout) (words : List ℕ) (views : List View) (es : List Entry) (
     few = few_set l words views es (e ∷ es) i v w h at (record { alive = alive; lives = refl; joined = refl });
     seats = seats_set l after_words (e ∷ es) views i w other_view won_view;
     joins = joins_set l words views es (e ∷ es) i v w h at (record { alive = alive; lives = refl; joined = refl }) (λ xs x. older-more xs es e x) (λ j ne. mine_there l es i a.object a.call j ne);
+    kept = kept_set l words views es (e ∷ es) i v w h at (record { alive = alive; lives = refl; joined = refl });
+    made = made_set l words views es (e ∷ es) i v w h at (record { alive = alive; lives = refl; joined = refl }) (λ xs x. older-more xs es e x) (λ j ne. mine_there l es i a.object a.call j ne);
   }
 
 -- decide: where the exchange finds the expected root, the entry follows; where it does not, nothing changes
@@ -439,11 +469,5 @@ decided_lawful l words views es i v a new found pairs h at alive is d = go (foun
     stale e s = let r : root_of words a.object ≡ a.expected = sym is ∙ e in s words (subst (λ (r : ℕ). IsVersion (home l a.object) r words) r (h.versions a.object t.exists)) (t.fresh (sym r))
 
     go : (b : Bool) → (found == a.expected) ≡ b → Lawful l (set words (a.object + 1) (cond b new found)) (set views i (decided_view b es (entry_for l es i a.object a.call) v a found pairs)) (history_after b (entry_for l es i a.object a.call) es)
-    go true e = let e' = eqb-true found a.expected e in ⊎_elim (λ p. decided_won l words views es i v a new found pairs h at alive t (sym is ∙ e') p d.room) (λ s. absurd (stale e' s)) d.plan
+    go true e = let e' = eqb-true found a.expected e in ⊎_elim (λ (p : IsPlanOf l v a new pairs). decided_won l words views es i v a new found pairs h at alive t (sym is ∙ e') p.plans p.room) (λ (s : IsHopeless l a pairs). absurd (stale e' s.stale)) d.case
     go false e = subst (λ (n : ℕ). Lawful l (set words (a.object + 1) n) (set views i (decided_view false es (entry_for l es i a.object a.call) v a found pairs)) es) (sym is) (decided_lost l words views es i v a (entry_for l es i a.object a.call) found pairs h at alive)
-
--- no entry is of a seat that is not made
-pub none_unmade : (l : Layout) (views : List View) (es : List Entry) (i : ℕ) (v w : View) (o : ℕ) (call : Call) (won : Bool) → get_elem? views i ≡ some v → NoneUnmade views es → NoneUnmade (set views i w) (history_after won (entry_for l es i o call) es)
-none_unmade l views es i v w o call true at h j le =
-    let k = length-set views i w in let r = inside_list views i v at in mine_there l es i o call j (λ (d : j ≡ i). absurd (omega arith)) ∙ h j (omega arith)
-none_unmade l views es i v w o call false at h j le = h j (let k = length-set views i w in omega arith)

@@ -4,3 +4,4 @@ pub mod Placing
 pub mod Lawfully
 pub mod Seating
 pub mod BankSteps
+pub mod BankMoves

@@ -2,6 +2,7 @@
 use Rattle.std.proofs.Common.{◌≡◌, ℕ, zero, suc, ◌+◌, ◌-◌, ◌*◌, ◌<◌, ◌≤◌, true, false, List, [], ◌∷◌, ◌++◌, length, refl, sym, ap, ◌∙◌, subst, ◌⊎◌, inl, inr, ⊎_elim, arith, suc-mul, mul_comm, mul-le-mul_right, add-one, append_assoc, drop, drop-cons}
 use Rattle.std.specs.Prelude.{slice_index, slice_index_or, Option, None, IfSome}
 use Rattle.std.proofs.lemmas.List.{get_or_push, get_or_append_left}
+use Rattle.std.proofs.lemmas.List.Elements.{All-nil}
 use mathlib.Core.Option.{some, some-ne-none, some-injective}
 use mathlib.Core.Logic.{dite}
 use native.Mathlib.Decide.{ℕ_discrete}
@@ -9,6 +10,7 @@ use lib.ListN.{get_elem?}
 use Rattle.rx_seq.specs.declared.kinds.Part.{Part}
 use Rattle.rx_seq.specs.declared.entries.Entry.{Entry}
 use Rattle.rx_seq.specs.History.{no_part}
+use Rattle.rx_seq.specs.States.{IsFitting}
 use Rattle.rx_shape.specs.declared.homes.Home.{Home}
 use Rattle.rx_shape.specs.Places.{times, total, run}
 use Rattle.rx_shape.specs.Forms.{stock_size, first_own, start_own, InRange, live, IsStock}
@@ -20,7 +22,7 @@ use Rattle.rx_shape.proofs.Starts.{starts as object_starts}
 use Rattle.rx_port.specs.declared.views.Joined.{Joined}
 use Rattle.rx_port.specs.declared.views.Known.{Known}
 use Rattle.rx_port.specs.declared.views.View.{View}
-use Rattle.rx_port.specs.Lawful.{holds_of, unmade, placed, IsKnown, IsView, IsJoined, Lawful}
+use Rattle.rx_port.specs.Lawful.{holds_of, unmade, placed, IsKnown, IsView, IsJoined, joined_in, Lawful}
 use Rattle.rx_port.specs.Seats.{starts, newcomer, seated}
 
 module _ {A : Type 0} where
@@ -84,6 +86,7 @@ module _ (l : Layout) (known : Option Known) (next : Option ℕ) (views : List V
     pub add_lawful : Lawful l words (views ++ newcomer l known (length views) next ∷ []) es
     add_lawful = record {
       legal = h.legal;
+      fitting = h.fitting;
       size = h.size;
       tags = h.tags;
       below = h.below;
@@ -96,6 +99,9 @@ module _ (l : Layout) (known : Option Known) (next : Option ℕ) (views : List V
           (λ (p : (j ≡ length views) × (newcomer l known (length views) next ≡ u)). subst (λ (y : ℕ × View). IsView l words es y.0 y.1) (λ k. (sym p.0 k, p.1 k)) new_view) (at_end views (newcomer l known (length views) next) u j at);
       joins = λ j u at n x is. ⊎_elim (λ (p : get_elem? views j ≡ some u). joined_more x (h.joins j u p n x is))
           (λ (p : (j ≡ length views) × (newcomer l known (length views) next ≡ u)). absurd (some-ne-none x (sym (subst (λ (y : View). get_elem? y.joined n ≡ some x) (sym p.1) is)))) (at_end views (newcomer l known (length views) next) u j at);
+      kept = λ j u at dead. ⊎_elim (λ (p : get_elem? views j ≡ some u). let e = total-end (joined_in j) views (newcomer l known (length views) next) in let one = h.kept j u p dead in omega arith)
+          (λ (p : (j ≡ length views) × (newcomer l known (length views) next ≡ u)). absurd (let q : true ≡ false = ap (λ (y : View). y.live) p.1 ∙ dead in cc)) (at_end views (newcomer l known (length views) next) u j at);
+      made = λ j past. h.made j (let e = length-end views (newcomer l known (length views) next) in omega arith);
     }
 
 -- the places of the start of different seats are different, and lie behind the first stock
@@ -142,6 +148,7 @@ module _ (l : Layout) (words : List ℕ) (limits : IsLayout l) (start : IsStart 
   pub open_lawful : Lawful l words [] []
   open_lawful = record {
     legal = tt;
+    fitting = All-nil (IsFitting l.parts);
     size = start.size;
     tags = λ o there. (object_starts l words o limits start there).tag ∙ omega arith;
     below = λ o there. let b = limits.tag in omega arith;
@@ -152,6 +159,8 @@ module _ (l : Layout) (words : List ℕ) (limits : IsLayout l) (start : IsStart 
     few = omega arith;
     seats = λ j u at. absurd (some-ne-none u (sym at));
     joins = λ j u at. absurd (some-ne-none u (sym at));
+    kept = λ j u at. absurd (some-ne-none u (sym at));
+    made = λ j past. refl;
   }
 
   pub length-seated : (n : ℕ) → length (seated l n) ≡ n

@@ -1,5 +1,5 @@
 -- What an event of a port tells, and its conditions.
-use Rattle.std.specs.Prelude.{ℕ, ◌≡◌, ◌+◌, ◌<◌, ◌≤◌, ◌^◌, ◌⊎◌, ◌==◌, if◌then◌else◌, true, List, length, slice_index, Some}
+use Rattle.std.specs.Prelude.{ℕ, ◌≡◌, ◌+◌, ◌<◌, ◌≤◌, ◌^◌, ◌⊎◌, ◌==◌, if◌then◌else◌, true, List, [], length, slice_index, Some}
 use mathlib.Core.Option.{some}
 use lib.ListN.{get_elem?}
 use Rattle.rx_seq.specs.declared.calls.Call.{Call}
@@ -10,6 +10,7 @@ use Rattle.rx_shape.specs.Words.{tag_of}
 use Rattle.rx_shape.specs.Places.{times}
 use Rattle.rx_shape.specs.Forms.{stock_size, InRange}
 use Rattle.rx_shape.specs.Layout.{Layout, home, root_of}
+use Rattle.rx_shape.specs.Asks.{EachBelow}
 use Rattle.rx_shape.specs.Versions.{NotWritten, Plans, IsStale}
 use Rattle.rx_port.specs.declared.views.Attempt.{Attempt}
 use Rattle.rx_port.specs.declared.views.View.{View}
@@ -59,12 +60,21 @@ pub record Decided (layout : Layout) (stood stands : Core → Type 0) (before no
   pub view_is : now ≡ decided_view (word == attempt.expected) history (entry_for layout history before.number attempt.object attempt.call) before attempt word pairs
   pub after : stands (exchanged core attempt.object (if word == attempt.expected then new else word) before.number now)
 
--- what a decide is asked: the plan of a version that has the words read, or that there is no such version
+-- the new root and the trade are those of a plan for the words that were read and the own places; its tag has room
+pub record IsPlanOf (layout : Layout) (view : View) (attempt : Attempt) (new : ℕ) (pairs : List Pair) : Type 0 where
+  pub room : tag_of attempt.expected + 1 < 2 ^ 40
+  pub plans : Plans (home layout attempt.object) attempt.call attempt.expected attempt.reads (own_of view attempt.object) attempt.writes new pairs
+  pub below : EachBelow (stock_size (part_at layout.parts attempt.object)) pairs
+
+-- no version with the expected root has the words that were read, and the trade is empty
+pub record IsHopeless (layout : Layout) (attempt : Attempt) (pairs : List Pair) : Type 0 where
+  pub stale : IsStale (home layout attempt.object) attempt.expected attempt.reads
+  pub none : pairs ≡ []
+
+-- what a decide is asked: one of these two
 pub record IsDecision (layout : Layout) (view : View) (attempt : Attempt) (new : ℕ) (pairs : List Pair) : Type 0 where
   pub is_open : view.attempt ≡ Some attempt
-  pub room : tag_of attempt.expected + 1 < 2 ^ 40
-  pub plan : Plans (home layout attempt.object) attempt.call attempt.expected attempt.reads (own_of view attempt.object) attempt.writes new pairs
-      ⊎ IsStale (home layout attempt.object) attempt.expected attempt.reads
+  pub case : IsPlanOf layout view attempt new pairs ⊎ IsHopeless layout attempt pairs
 
 -- the conditions of read, write and decide
 pub record IsOpen (layout : Layout) (view : View) (object : ℕ) : Type 0 where

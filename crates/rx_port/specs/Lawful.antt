@@ -1,10 +1,13 @@
 -- What holds of words and seats at every moment, for some history.
-use Rattle.std.specs.Prelude.{ℕ, zero, suc, ◌≡◌, ◌+◌, ◌-◌, ◌<◌, ◌≤◌, ◌^◌, true, false, List, [], ◌++◌, length, slice_index_or, IfSome}
+use Rattle.std.specs.Prelude.{ℕ, zero, suc, ◌≡◌, ◌+◌, ◌-◌, ◌<◌, ◌≤◌, ◌^◌, ◌==◌, if◌then◌else◌, true, false, List, [], ◌++◌, length, slice_index_or, None, IfSome}
+use Rattle.std.specs.List.{All}
 use mathlib.Core.Option.{some}
 use lib.ListN.{get_elem?}
 use Rattle.rx_seq.specs.declared.entries.Entry.{Entry}
-use Rattle.rx_seq.specs.History.{replay}
+use Rattle.rx_seq.specs.Table.{fits_part}
+use Rattle.rx_seq.specs.History.{part_at, replay}
 use Rattle.rx_seq.specs.Legal.{IsLegal, entries_of}
+use Rattle.rx_seq.specs.States.{IsFitting}
 use Rattle.rx_shape.specs.declared.homes.Home.{Home}
 use Rattle.rx_shape.specs.Words.{tag_of}
 use Rattle.rx_shape.specs.Places.{times, total}
@@ -38,10 +41,11 @@ unmade here place (suc count) seat = times place (start_own here seat) + unmade 
 abbrev pub placed : Layout → ℕ → ℕ → List View → ℕ
 placed layout object place views = total (holds_of object place) views + unmade (home layout object) place (layout.seats - length views) (length views)
 
--- an open attempt: its expected tag has been, its root is the present one where the tags are equal, the words that it
--- read then stand where they are live, and what it wrote stands in its own places
+-- an open attempt: its call fits an object that is there, its expected tag has been, its root is the present one where
+-- the tags are equal, the words that it read then stand where they are live, and what it wrote stands in its own places
 pub record IsAttempt (layout : Layout) (words : List ℕ) (history : List Entry) (own : List (List ℕ)) (attempt : Attempt) : Type 0 where
   pub exists : attempt.object < length layout.parts
+  pub fits : fits_part (part_at layout.parts attempt.object) attempt.call ≡ true
   pub at_most : tag_of attempt.expected ≤ tag_after layout history attempt.object
   pub same : tag_of attempt.expected ≡ tag_after layout history attempt.object → attempt.expected ≡ root_of words attempt.object
   pub fresh : attempt.expected ≡ root_of words attempt.object → HasRead (live (home layout attempt.object) attempt.expected words) words attempt.reads
@@ -57,11 +61,17 @@ pub record OwnsAll (layout : Layout) (own : List (List ℕ)) : Type 0 where
   pub many : length own ≡ length layout.parts
   pub stocks : (object : ℕ) → object < length layout.parts → IsStock (home layout object) (slice_index_or own object [])
 
--- a seat; one that was joined into another owns nothing
+-- a seat that was joined into another owns nothing, holds nothing and has no open attempt
+pub record IsSpent (view : View) : Type 0 where
+  pub own : view.own ≡ []
+  pub joined : view.joined ≡ []
+  pub attempt : view.attempt ≡ None
+
+-- a seat
 pub record IsView (layout : Layout) (words : List ℕ) (history : List Entry) (seat : ℕ) (view : View) : Type 0 where
   pub numbered : view.live ≡ true → view.number ≡ seat
   pub owns : view.live ≡ true → OwnsAll layout view.own
-  pub spent : view.live ≡ false → view.own ≡ []
+  pub spent : view.live ≡ false → IsSpent view
   pub attempt : IfSome view.attempt (λ attempt. IsAttempt layout words history view.own attempt)
   pub known : IfSome view.known (λ known. IsKnown history seat known)
   pub both : IfSome view.attempt (λ attempt. IfSome view.known (λ known. tag_of attempt.expected ≤ tag_after layout known.seen attempt.object))
@@ -74,9 +84,21 @@ pub record IsJoined (layout : Layout) (views : List View) (history : List Entry)
   pub mine : joined.mine ≡ entries_of joined.number history
   pub owns : OwnsAll layout joined.own
 
--- the words and the seats stand for this history
+-- how often a seat is among those that were joined into a seat
+abbrev pub is_of : ℕ → Joined → ℕ
+is_of seat joined = if joined.number == seat then 1 else 0
+
+abbrev pub joined_in : ℕ → View → ℕ
+joined_in seat view = total (is_of seat) view.joined
+
+-- no entry is of a seat that is not made yet
+abbrev pub NoneUnmade : List View → List Entry → Type 0
+NoneUnmade views history = (seat : ℕ) → length views ≤ seat → entries_of seat history ≡ []
+
+-- the words and the seats stand for this history. Each seat that was joined into another is kept by one seat, once
 pub record Lawful (layout : Layout) (words : List ℕ) (views : List View) (history : List Entry) : Type 0 where
   pub legal : IsLegal layout.parts layout.first history
+  pub fitting : All (IsFitting layout.parts) history
   pub size : length words ≡ words_of layout
   pub tags : (object : ℕ) → object < length layout.parts → tag_of (root_of words object) ≡ tag_after layout history object
   pub below : (object : ℕ) → object < length layout.parts → tag_after layout history object < 2 ^ 40
@@ -87,7 +109,5 @@ pub record Lawful (layout : Layout) (words : List ℕ) (views : List View) (hist
   pub few : length views ≤ layout.seats
   pub seats : (seat : ℕ) (view : View) → get_elem? views seat ≡ some view → IsView layout words history seat view
   pub joins : (seat : ℕ) (view : View) → get_elem? views seat ≡ some view → (n : ℕ) (joined : Joined) → get_elem? view.joined n ≡ some joined → IsJoined layout views history joined
-
--- no entry is of a seat that is not made yet
-abbrev pub NoneUnmade : List View → List Entry → Type 0
-NoneUnmade views history = (seat : ℕ) → length views ≤ seat → entries_of seat history ≡ []
+  pub kept : (seat : ℕ) (view : View) → get_elem? views seat ≡ some view → view.live ≡ false → total (joined_in seat) views ≡ 1
+  pub made : NoneUnmade views history

@@ -1,5 +1,5 @@
 -- A bank's seats as plain data, and as contracts see them.
-use Rattle.std.specs.Prelude.{ℕ, ◌≡◌, ◌+◌, ◌≤◌, ◌^◌, true, List, [], map, slice_index_or, Vec, Option, Some, None, IfSome, option_map}
+use Rattle.std.specs.Prelude.{ℕ, ◌≡◌, ◌+◌, ◌<◌, ◌≤◌, ◌^◌, true, List, [], length, map, slice_index_or, Vec, Option, Some, None, IfSome, option_map}
 use Rattle.std.proofs.Common.{sym, subst}
 use Rattle.std.proofs.Math.Nat.{le_trans, le-add_right, add_assoc}
 use Rattle.std.specs.declared.alloc.Global.{Global}
@@ -16,6 +16,7 @@ use Rattle.rx_port.specs.declared.views.Core.{Core}
 use Rattle.rx_port.specs.declared.desks.Opened.{Opened}
 use Rattle.rx_port.specs.declared.desks.Desk.{Desk}
 use Rattle.rx_port.specs.Lawful.{Lawful}
+use Rattle.rx_port.specs.Events.{OwnsWell}
 
 abbrev pub lists : List (Vec ℕ Global) → List (List ℕ)
 lists own = map (λ (places : Vec ℕ Global). places.items) own
@@ -44,15 +45,38 @@ pub record Whole : Type 0 where
 abbrev pub whole_of : Layout → List ℕ → List Desk → Counts → Whole
 whole_of layout words desks counts = record { layout = layout; core = plain_core words desks counts }
 
--- it is lawful for some history
+-- a seat that keeps no histories, is joined into no other, and has none joined into it
+pub record IsPlainView (view : View) : Type 0 where
+  pub known : view.known ≡ None
+  pub live : view.live ≡ true
+  pub joined : view.joined ≡ []
+
+-- each seat is so
+abbrev pub IsPlain : Core → Type 0
+IsPlain core = (seat : ℕ) (view : View) → get_elem? core.views seat ≡ some view → IsPlainView view
+
+-- all seats of the layout are there, and the bank is lawful for some history
 pub record IsBank (whole : Whole) : Type 0 where
   pub limits : IsLayout whole.layout
+  pub many : length whole.core.views ≡ whole.layout.seats
+  pub plain : IsPlain whole.core
   pub history : List Entry
   pub lawful : Lawful whole.layout whole.core.words whole.core.views history
 
--- no seat keeps histories
-abbrev pub IsPlain : Core → Type 0
-IsPlain core = (seat : ℕ) (view : View) → get_elem? core.views seat ≡ some view → view.known ≡ None
+-- a seat of a bank has the number that it is named by, and owns different places of each object's range
+pub record IsSeatOf (whole : Whole) (seat : ℕ) : Type 0 where
+  pub there : seat < length whole.core.views
+  pub plain : IsPlain whole.core
+  pub number : (view_at whole.core seat).number ≡ seat
+  pub owns : OwnsWell whole.layout (view_at whole.core seat)
+
+-- an event of a bank: for each history that the bank stood for it stands for the one that the event makes of it, the
+-- moved seat is as told, and all others are as before
+pub record Moves (layout : Layout) (old now : Core) (seat : ℕ) (after : View) (made_of : List Entry → List Entry) : Type 0 where
+  pub lawful : (history : List Entry) → Lawful layout old.words old.views history → Lawful layout now.words now.views (made_of history)
+  pub many : length now.views ≡ length old.views
+  pub moved : view_at now seat ≡ after
+  pub others : (other : ℕ) → (other ≡ seat → ⊥) → view_at now other ≡ view_at old other
 
 -- so many more events have room in the counts
 abbrev pub HasRoomIn : ℕ → Counts → Type 0

@@ -1,13 +1,12 @@
 // Words in a plain vector, and each seat's open attempt and own places.
 ghost use Rattle.rx_port.specs.Core.{tag_after};
-ghost use Rattle.rx_port.specs.Events.{OwnsWell};
 ghost use Rattle.rx_port.specs.Lawful.{Lawful};
-ghost use Rattle.rx_port.specs.Plain.{view_at, HasRoom, IsPlain, less_room};
+ghost use Rattle.rx_port.specs.Plain.{view_at, HasRoom, IsSeatOf, less_room};
 ghost use Rattle.rx_port.specs.Seats.{no_counts, seated};
 ghost use Rattle.rx_seq.specs.History.{replay};
 ghost use Rattle.rx_seq.specs.declared.entries.Entry.{Entry};
 ghost use Rattle.rx_shape.specs.Forms.{decoded};
-ghost use Rattle.rx_shape.specs.Layout.{home, root_of};
+ghost use Rattle.rx_shape.specs.Layout.{IsLayout, home, root_of};
 ghost use Rattle.rx_shape.specs.Start.{IsStart};
 ghost use Rattle.rx_shape.specs.Words.{tag_of as tag_in};
 ghost use Rattle.std.specs.Prelude.{ℕ, ◌≡◌, ◌<◌, ◌==◌, if◌then◌else◌, IfOk, List, [], Some, length};
@@ -53,7 +52,7 @@ impl Bank {
         ensures seats { IfOk result (λ bank. bank.core.views ≡ seated layout layout.seats) }
         ensures words { IfOk result (λ bank. IsStart layout bank.core.words) }
         ensures lawful { IfOk result (λ bank. Lawful layout bank.core.words bank.core.views []) }
-        ensures ours { IfOk result (λ bank. (seat : ℕ) → seat < layout.seats → (seat < length bank.core.views) × IsPlain bank.core × OwnsWell layout (view_at bank.core seat)) }
+        ensures ours { IfOk result (λ bank. (seat : ℕ) → seat < layout.seats → IsSeatOf bank seat) }
     {
         let _parts = layout.parts();
         let words = start_words(alloc, &layout)?;
@@ -66,9 +65,13 @@ impl Bank {
         })
     }
 
-    /// What its words stand for.
+    /// What its words stand for. Each number below that of its seats names a seat of the bank.
     pub fn layout(&self) -> &Layout
-        ensures { result.now ≡ self.now.layout }
+        ensures layout { result.now ≡ self.now.layout }
+        ensures limits { IsLayout self.now.layout }
+        ensures many { length self.now.core.views ≡ self.now.layout.seats }
+        ensures ours { (seat : ℕ) → seat < self.now.layout.seats → IsSeatOf self.now seat }
+        ensures lawful { (history : List Entry) × Lawful self.now.layout self.now.core.words self.now.core.views history }
     {
         &self.layout
     }
@@ -104,7 +107,7 @@ impl Port for Bank {
 
     ghost layout = { λ b. b.layout };
 
-    ghost ours = { λ b seat. (seat < length b.core.views) × IsPlain b.core × OwnsWell b.layout (view_at b.core seat) };
+    ghost ours = { λ b seat. IsSeatOf b seat };
 
     ghost room = { λ n b. HasRoom n b.core };
 
@@ -159,7 +162,7 @@ impl Port for Bank {
 
     ghost room_less = { λ n b h. less_room n b.core h };
 
-    ghost owns_well = { λ b seat h. h.2 };
+    ghost owns_well = { λ b seat h. h.owns };
 }
 
 /// What an exchange leaves.

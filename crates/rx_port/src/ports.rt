@@ -1,7 +1,6 @@
 // The events of a seat.
 ghost use Rattle.rx_seq.specs.History.{part_at};
 ghost use Rattle.rx_seq.specs.Table.{fits_part};
-ghost use Rattle.rx_shape.specs.Asks.{EachBelow};
 ghost use Rattle.rx_shape.specs.Forms.{stock_size, InRange};
 ghost use Rattle.rx_shape.specs.Layout.{Layout, home};
 ghost use Rattle.rx_port.specs.Core.{own_of};
@@ -15,8 +14,9 @@ use rx_seq::Call;
 use rx_shape::Trade;
 
 /// Where an attempt makes its events: a plain bank, or a table that seats share. Each event finds the words and the
-/// seats in a state that is lawful for some history, and leaves them so. Events of other seats may come between two
-/// events. All objects are numbered from 0.
+/// seats in a state that is lawful for some history, and tells what it makes of them: one word at most, and the view of
+/// its own seat. The seat is still one of the port then, and so are all others. Events of other seats may come between
+/// two events. All objects are numbered from 0.
 pub trait Port {
     /// A seat of the bank or table. It has the open attempt and the own places.
     type Seat;
@@ -46,6 +46,7 @@ pub trait Port {
         ensures event { Begun (layout self.old) (stands self.old seat.old) (stands self.new seat.new) (view self.old seat.old) (view self.new seat.new) object call result }
         ensures layout { layout self.new ≡ layout self.old }
         ensures ours { ours self.new seat.new }
+        ensures others { (other : Self.Seat) → ours self.old other → ours self.new other }
         ensures room { (n : ℕ) → room (n + 1) self.old → room n self.new };
 
     /// Loads a place of the object. The seat has an open attempt on the object, which read fewer than the capacity and 2
@@ -59,6 +60,7 @@ pub trait Port {
         ensures event { (attempt : Attempt) → (view self.old seat.old).attempt ≡ Some attempt → DidRead (layout self.old) (stands self.old seat.old) (stands self.new seat.new) (view self.old seat.old) (view self.new seat.new) attempt place result }
         ensures layout { layout self.new ≡ layout self.old }
         ensures ours { ours self.new seat.new }
+        ensures others { (other : Self.Seat) → ours self.old other → ours self.new other }
         ensures room { (n : ℕ) → room (n + 1) self.old → room n self.new };
 
     /// Stores into the own place with this number. The seat has an open attempt on the object, which wrote nothing under
@@ -71,12 +73,14 @@ pub trait Port {
         ensures event { (attempt : Attempt) → (view self.old seat.old).attempt ≡ Some attempt → DidWrite (layout self.old) (stands self.old seat.old) (stands self.new seat.new) (view self.old seat.old) (view self.new seat.new) attempt own value }
         ensures layout { layout self.new ≡ layout self.old }
         ensures ours { ours self.new seat.new }
+        ensures others { (other : Self.Seat) → ours self.old other → ours self.new other }
         ensures room { (n : ℕ) → room (n + 1) self.old → room n self.new };
 
     /// Exchanges the object's root for the new one if it is the expected one, and answers the root that it found. If it
     /// is the expected one, each pair of the trade makes the own place with its number the given place; else nothing
     /// changes. The new root and the trade are those of a plan for the words that the attempt read, whose writes were
-    /// made; or no version with the expected root has these words. The attempt ends.
+    /// made; or no version with the expected root has these words, the trade is empty and the new root is any. The
+    /// attempt ends.
     fn decide(
         &mut self,
         seat: &mut Self::Seat,
@@ -88,11 +92,11 @@ pub trait Port {
         requires ours { ours self.old seat.old }
         requires exists { object < length (layout self.old).parts }
         requires ready { IsReady (layout self.old) (view self.old seat.old) object expected new trade.now.pairs.items }
-        requires pairs { EachBelow (stock_size (part_at (layout self.old).parts object)) trade.now.pairs.items }
         requires room { room 1 self.old }
         ensures event { (attempt : Attempt) → (view self.old seat.old).attempt ≡ Some attempt → Decided (layout self.old) (stands self.old seat.old) (stands self.new seat.new) (view self.old seat.old) (view self.new seat.new) attempt new trade.now.pairs.items result }
         ensures layout { layout self.new ≡ layout self.old }
         ensures ours { ours self.new seat.new }
+        ensures others { (other : Self.Seat) → ours self.old other → ours self.new other }
         ensures room { (n : ℕ) → room (n + 1) self.old → room n self.new };
 
     /// The place that the seat owns under this number. The object is no cell. It makes no event.

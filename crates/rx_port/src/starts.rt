@@ -1,16 +1,15 @@
 // The words and the seats of the start.
 ghost use Rattle.rx_port.specs.Plain.{lists, view_of};
 ghost use Rattle.rx_port.specs.Seats.{seated, starts};
-ghost use Rattle.rx_seq.specs.Table.{IsPart};
-ghost use Rattle.rx_shape.specs.Forms.{start_own, stock_size};
+ghost use Rattle.rx_shape.specs.Forms.{start_own};
 ghost use Rattle.rx_shape.specs.Layout.{home};
 ghost use Rattle.rx_shape.specs.Start.{IsStart};
-ghost use Rattle.std.specs.Prelude.{◌≡◌, ◌≤◌, ◌<◌, IfOk, length, map};
+ghost use Rattle.std.specs.Prelude.{◌≡◌, ◌<◌, IfOk, length, map};
 
 use crate::desks::Desk;
 use arrayvec::ArrayVec;
-use rx_seq::{Kind, NoMemory, Part};
-use rx_shape::Layout;
+use rx_seq::NoMemory;
+use rx_shape::{Layout, stock};
 use std::alloc::Global;
 
 /// The words of the start. It takes time that grows with the number of words times the number of objects.
@@ -25,18 +24,6 @@ pub fn start_words(alloc: Global, layout: &Layout) -> Result<Vec<u64>, NoMemory>
         }
     }
     Ok(words)
-}
-
-/// How many places a seat owns of an object of this part.
-fn stock(part: Part) -> u32
-    requires { IsPart part }
-    ensures value { result ≡ stock_size part }
-    ensures bound { result ≤ 65 }
-{
-    match part.kind {
-        Kind::Cell => 0,
-        _ => part.cap + 1,
-    }
 }
 
 /// The places of the start that a seat owns of an object.

@@ -22,6 +22,7 @@ pub struct Attempt {
 }
 
 /// An exchange: its object, the root that it expected and the one that it found.
+#[derive(Clone, Copy, Debug, Default, PartialEq, Eq)]
 pub struct Exchange {
     pub object: u32,
     pub expected: u64,

@@ -1,22 +1,29 @@
 -- What code reads of a set is what clauses see.
-use Rattle.std.proofs.Common.{ℕ, ◌≡◌, ◌≤◌, ◌<◌, ◌+◌, ◌-◌, ◌*◌, ◌^◌, List, [], ◌∷◌, ◌++◌, length, get_or, map, count_by, add-one, sym, subst, ap, ◌∙◌, arith}
+use Rattle.std.proofs.Common.{ℕ, ◌≡◌, ◌≤◌, ◌<◌, ◌+◌, ◌-◌, ◌*◌, ◌^◌, List, [], ◌∷◌, ◌++◌, length, get_or, take, map, count_by, add-one, sym, subst, ap, ◌∙◌, arith}
 use Rattle.std.proofs.lemmas.List.{get_or-map, length-map, map-append}
-use Rattle.std.proofs.lemmas.List.Elements.{All-from_get_or}
+use Rattle.std.proofs.Math.Seq.{take-suc}
 use Rattle.std.proofs.lemmas.Option.{slice_get-get_or}
-use Rattle.std.specs.List.{All}
+use Rattle.rx_seq.specs.declared.kinds.Kind.{Kind}
+use Rattle.rx_seq.specs.declared.kinds.Kind.TheVariants.{Cell, Queue, Registers, List as Ordered}
+use Rattle.rx_seq.specs.Table.{IsCap, IsPart}
+use Rattle.rx_seq.specs.History.{no_part, part_at}
+use Rattle.std.specs.Prelude.{slice_get}
 use Rattle.rx_set.specs.declared.policies.Policy.{Policy}
 use Rattle.rx_set.specs.declared.items.Item.{Item}
-use Rattle.rx_set.specs.declared.items.Item.TheVariants.{Work, Op}
+use Rattle.rx_set.specs.declared.items.Item.TheVariants.{Work}
 use Rattle.rx_set.specs.declared.jobs.Job.{Job}
 use Rattle.rx_set.specs.declared.objects.Object.{Object}
 use Rattle.rx_set.specs.declared.tasks.Task.{Task}
-use Rattle.rx_set.specs.System.{System, TaskRow, no_task, task_at, task_of, rank, is_ahead, numbers}
+use Rattle.rx_set.specs.System.{System, ObjectRow, TaskRow, no_task, task_at, task_of, part_of_row, parts_of, attempt_by, attempt_cost, rank, is_ahead, numbers}
 use Rattle.rx_set.specs.Valid.{IsValid, IsItem, IsJob}
-use Rattle.rx_set.specs.View.{row_of, system_of}
+use Rattle.rx_set.specs.View.{object_row, row_of, system_of}
 use Rattle.rx_set.specs.Ranked.{IsTaskSet}
 use Rattle.rx_set.proofs.Counts.{length-numbers, get_or-map_numbers}
 use Rattle.rx_set.proofs.Ranks.{rank_found}
 use Rattle.rx_set.proofs.Releases.{periods_bound}
+
+no_object : ObjectRow
+no_object = record { name = []; part = no_part }
 
 pub task_read : (policy : Policy) (objects : List Object) (tasks : List Task) (k : ℕ) (task : Task) → k < length tasks → task ≡ get_or tasks k task → task_at (system_of policy objects tasks) k ≡ row_of task
 task_read policy objects tasks k task known is = get_or-map row_of tasks k task no_task known ∙ ap row_of (sym is)
@@ -41,6 +48,57 @@ job_bound shown job task valid known is =
       subst (λ (r : TaskRow). r.offset ≤ 1000000) is row.offset,
       subst (λ (r : TaskRow). r.deadline ≤ 1000000) is (omega (arith, row.deadline.1, row.period.1)),
     )
+
+-- the part of an object
+part_here : (policy : Policy) (objects : List Object) (tasks : List Task) (k : ℕ) (object : Object) → k < length objects → object ≡ get_or objects k object
+    → part_at (parts_of (system_of policy objects tasks)) k ≡ object.part
+part_here policy objects tasks k object known is =
+    get_or-map part_of_row (map object_row objects) k no_object no_part (omega (arith, length-map objects object_row))
+    ∙ ap part_of_row (get_or-map object_row objects k object no_object known ∙ ap object_row (sym is))
+
+pub part_read : (policy : Policy) (objects : List Object) (tasks : List Task) (shown : System) (k : ℕ) (object : Object) → system_of policy objects tasks ≡ shown → k < length shown.objects
+    → object ≡ get_or objects k object → part_at (parts_of shown) k ≡ object.part
+part_read policy objects tasks shown k object is known same =
+    let P : System → Type 0 = λ s. k < length s.objects → part_at (parts_of s) k ≡ object.part in
+    let here : P (system_of policy objects tasks) = λ inside. part_here policy objects tasks k object (omega (arith, length-map objects object_row)) same in
+    subst P is here known
+
+-- an attempt takes few ticks
+attempt_by_bound : (kind : Kind) (cap : ℕ) → IsCap kind cap → (2 ≤ attempt_by kind cap) × (attempt_by kind cap ≤ 134)
+attempt_by_bound Cell cap is = (omega arith, omega arith)
+attempt_by_bound Queue cap is = (omega (arith, is.1), omega (arith, is.1))
+attempt_by_bound Ordered cap is = (omega (arith, is.1), omega (arith, is.1))
+attempt_by_bound Registers cap is = (omega (arith, is.1), omega (arith, is.1))
+
+pub attempt_bound : (system : System) (object : ℕ) → IsValid system → object < length system.objects → (2 ≤ attempt_cost system object) × (attempt_cost system object ≤ 134)
+attempt_bound system object valid known =
+    let row = valid.objects object (get_or system.objects object no_object) (slice_get-get_or system.objects object no_object known) in
+    let part = get_or-map part_of_row system.objects object no_object no_part known in
+    attempt_by_bound (part_at (parts_of system) object).kind (part_at (parts_of system) object).cap (subst IsPart (sym part) row.part)
+
+-- the items of a task
+pub items_read : (policy : Policy) (objects : List Object) (tasks : List Task) (shown : System) (k : ℕ) (task : Task) (items : List Item) → system_of policy objects tasks ≡ shown → k < length shown.tasks
+    → task ≡ get_or tasks k task → items ≡ task.body → items ≡ (task_at shown k).items
+items_read policy objects tasks shown k task items is known same read = read ∙ sym (ap (λ (row : TaskRow). row.items) (row_read policy objects tasks shown k task is known same))
+
+pub item_here : (shown : System) (k place : ℕ) (items : List Item) → IsValid shown → k < length shown.tasks → items ≡ (task_at shown k).items → place < length items → IsItem shown (get_or items place (Work 0))
+item_here shown k place items valid known is inside =
+    (valid.tasks k known).items place (get_or items place (Work 0)) (ap (λ xs. slice_get xs place) (sym is) ∙ slice_get-get_or items place (Work 0) inside)
+
+pub items_few : (shown : System) (k : ℕ) (items : List Item) → IsValid shown → k < length shown.tasks → items ≡ (task_at shown k).items → length items ≤ 64
+items_few shown k items valid known is = omega (arith, ap length is, (valid.tasks k known).some_items.1)
+
+-- the parts so far and one more
+pub parts_more : (policy : Policy) (objects : List Object) (tasks : List Task) (shown : System) (k : ℕ) (object : Object) → system_of policy objects tasks ≡ shown → k < length objects
+    → object ≡ get_or objects k object → take k (parts_of shown) ++ object.part ∷ [] ≡ take (k + 1) (parts_of shown)
+parts_more policy objects tasks shown k object is known same =
+    let P : System → Type 0 = λ s. take k (parts_of s) ++ object.part ∷ [] ≡ take (k + 1) (parts_of s) in
+    let here : P (system_of policy objects tasks) =
+    let parts = parts_of (system_of policy objects tasks) in
+    let long : k < length parts = omega (arith, length-map objects object_row, length-map (map object_row objects) part_of_row) in
+    let last : get_or parts k no_part ≡ object.part = part_here policy objects tasks k object known same in
+    sym (ap (λ n. take n parts) (add-one k) ∙ take-suc parts k no_part long ∙ ap (λ x. take k parts ++ x ∷ []) last) in
+    subst P is here
 
 -- ranks as they are counted
 pub rank_counted : (policy : Policy) (tasks : List Task) (k count : ℕ) → count ≡ count_by (is_ahead (system_of policy [] tasks) k) (numbers (length tasks)) → count + 1 ≡ rank (system_of policy [] tasks) k

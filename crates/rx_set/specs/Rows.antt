@@ -1,7 +1,7 @@
 -- Worked rows of names, ranks, times, keys, costs and demands.
 use Rattle.std.specs.Prelude.{ℕ, ◌≡◌, true, false, refl, List, [], ◌∷◌, codes, Some}
 use Rattle.rx_seq.specs.declared.kinds.Kind.TheVariants.{Cell, Queue}
-use Rattle.rx_seq.specs.declared.calls.Call.TheVariants.{Get, Put}
+use Rattle.rx_seq.specs.declared.calls.Call.TheVariants.{Get, Add, Put, Take}
 use Rattle.rx_set.specs.declared.policies.Policy.{Policy}
 use Rattle.rx_set.specs.declared.policies.Policy.TheVariants.{Rm, Dm, Edf}
 use Rattle.rx_set.specs.declared.items.Item.{Item}
@@ -9,7 +9,7 @@ use Rattle.rx_set.specs.declared.items.Item.TheVariants.{Work, Op}
 use Rattle.rx_set.specs.declared.jobs.Job.{Job}
 use Rattle.rx_set.specs.declared.jobs.Key.{Key}
 use Rattle.rx_set.specs.Names.{is_name, has_repeat}
-use Rattle.rx_set.specs.System.{System, TaskRow, rank, release, due, key, is_below, ticks_of, item_at, attempt_cost, cost}
+use Rattle.rx_set.specs.System.{System, TaskRow, rank, release, due, key, is_below, ticks_of, item_at, attempt_cost, cost, retry_cost}
 
 abbrev task : ℕ → ℕ → ℕ → List Item → TaskRow
 task period deadline offset items = record { name = codes "t"; period = period; deadline = deadline; offset = offset; items = items }
@@ -145,13 +145,20 @@ two_alike = refl
 pub all_apart : has_repeat (codes "a" ∷ codes "b" ∷ codes "ab" ∷ []) ≡ false
 all_apart = refl
 
--- two tasks with work alone, as the test builds them
+-- the longest attempt is that on the queue; a task that only works has none
+pub longest_attempt : retry_cost (system Rm (x ∷ y ∷ [])) ≡ 8
+longest_attempt = refl
+
+pub no_attempt : retry_cost (system Rm (x ∷ [])) ≡ 0
+no_attempt = refl
+
+-- two tasks that share a cell and a queue, as the test builds them
 abbrev pub pair : Policy → System
 pair policy = record {
   policy = policy;
-  objects = [];
+  objects = record { name = codes "c"; part = record { kind = Cell; cap = 1 } } ∷ record { name = codes "q"; part = record { kind = Queue; cap = 1 } } ∷ [];
   tasks =
       record { name = codes "fast"; period = 10; deadline = 9; offset = 3; items = Work 2 ∷ [] }
-      ∷ record { name = codes "urgent"; period = 20; deadline = 4; offset = 0; items = Work 5 ∷ Work 1 ∷ [] } ∷ [];
+      ∷ record { name = codes "urgent"; period = 20; deadline = 4; offset = 0; items = Op 0 (Add 1) ∷ Work 1 ∷ Op 1 Take ∷ [] } ∷ [];
   demands = [];
 }

@@ -3,6 +3,7 @@ ghost use Rattle.rx_set.specs.Rows.{pair};
 ghost use Rattle.std.specs.Prelude.{◌≡◌, IfOk};
 
 use super::*;
+use rx_seq::{Call, Kind, Part};
 use std::alloc::Global;
 use std::test::Fail;
 
@@ -17,14 +18,37 @@ fn two_tasks(alloc: Global, policy: Policy) -> Result<TaskSet, Fail>
         offset: 3,
         body: Body::of(vec![in alloc; Item::Work { n: 2 }]?),
     };
+    let adding = Item::Op {
+        object: 0,
+        call: Call::Add { v: 1 },
+    };
+    let taking = Item::Op {
+        object: 1,
+        call: Call::Take,
+    };
     let urgent = Task {
         name: Name::from("urgent")?,
         period: 20,
         deadline: 4,
         offset: 0,
-        body: Body::of(vec![in alloc; Item::Work { n: 5 }, Item::Work { n: 1 }]?),
+        body: Body::of(vec![in alloc; adding, Item::Work { n: 1 }, taking]?),
     };
-    Ok(TaskSet::build(policy, vec![in alloc;]?, vec![in alloc; fast, urgent]?))
+    let cell = Object {
+        name: Name::from("c")?,
+        part: Part {
+            kind: Kind::Cell,
+            cap: 1,
+        },
+    };
+    let queue = Object {
+        name: Name::from("q")?,
+        part: Part {
+            kind: Kind::Queue,
+            cap: 1,
+        },
+    };
+    let objects = vec![in alloc; cell, queue]?;
+    Ok(TaskSet::build(policy, objects, vec![in alloc; fast, urgent]?))
 }
 
 #[test]
@@ -51,7 +75,10 @@ fn each_policy(rt: HostRuntime) -> Result<(), Fail> {
                 third
             }
         );
-        assert_eq!(rt; set.cost(1), 6);
+        assert_eq!(rt; set.objects().len(), 2);
+        assert_eq!(rt; set.attempt_cost(1), 8);
+        assert_eq!(rt; set.retry_cost(), 8);
+        assert_eq!(rt; set.cost(1), 11);
         assert_eq!(rt; set.ticks(Job { task: 1, number: 1 }, 2), 1);
     }
     Ok(())

@@ -33,8 +33,9 @@ impl Model for Layout {
     ghost invariant = { λ l. IsLayout (record { parts = l.parts.items; seats = l.seats; first = l.first }) };
 }
 
-/// How many places a version of the part has, and how many a seat owns of it.
-fn stock(part: Part) -> u32
+/// How many places a version of an object of this part has, and how many a seat owns of the object: 0 for a cell, and
+/// else one more than the capacity. It takes constant time.
+pub fn stock(part: Part) -> u32
     requires { IsPart part }
     ensures value { result ≡ stock_size part }
     ensures bound { result ≤ 65 }

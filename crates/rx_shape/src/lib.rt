@@ -15,7 +15,7 @@ mod tests;
 
 pub use homes::Home;
 pub use inline::Inline;
-pub use layouts::Layout;
+pub use layouts::{Layout, stock};
 pub use plans::{Pair, Plan, Taken, Trade, Want, Write};
 pub use roots::{low_of, pack, tag_of};
 pub use shapes::Shape;

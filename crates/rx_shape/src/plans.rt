@@ -44,6 +44,6 @@ pub enum Want {
     Read { place: u32 },
     /// Nothing more: the words that were read settle the reply and the plan.
     Ready,
-    /// Nothing more: no version has the words that were read.
+    /// Nothing more: no version with this root has the words that were read.
     Stale,
 }

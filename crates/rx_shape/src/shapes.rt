@@ -8,7 +8,7 @@ ghost use Rattle.rx_shape.specs.Words.{tag_of, low_of};
 ghost use Rattle.rx_shape.specs.Places.{times};
 ghost use Rattle.rx_shape.specs.Forms.{stock_size, InRange, IsStock};
 ghost use Rattle.rx_shape.specs.Asks.{Wants, IsPlanned};
-ghost use Rattle.std.specs.Prelude.{ℕ, ◌≡◌, ◌+◌, ◌<◌, ◌^◌, List, [], ◌∷◌, ◌++◌};
+ghost use Rattle.std.specs.Prelude.{ℕ, ◌≡◌, ◌≤◌, ◌+◌, ◌<◌, ◌^◌, List, [], ◌∷◌, ◌++◌};
 
 use crate::plans::{Plan, Want};
 use arrayvec::ArrayVec;
@@ -60,12 +60,13 @@ pub trait Shape {
         ensures asked { asked self.new ≡ asked self.old };
 
     /// The plan of the call, where `want` answers `Ready` and the root's tag is not the last one. The own places are
-    /// a stock of places of the object; a cell has none.
+    /// a stock of places of the object, without repeats; a cell has none.
     fn plan(&self, root: u64, own: &ArrayVec<u32, 65>, out: &mut Plan) -> Reply
         requires ready { next self.now root ≡ Ready }
         requires root { 0 < stock_size (home self.now).part → InRange (home self.now) (low_of root) }
         requires tag { tag_of root + 1 < 2 ^ 40 }
         requires stock { IsStock (home self.now) own.now.items }
         requires ranges { (place : ℕ) → 0 < times place own.now.items → InRange (home self.now) place }
+        requires once { (place : ℕ) → times place own.now.items ≤ 1 }
         ensures { IsPlanned (home self.now) (asked self.now) root (taken self.now root) own.now.items out.new.root out.new.writes.items out.new.trade.pairs.items result };
 }

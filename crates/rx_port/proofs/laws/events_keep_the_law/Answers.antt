@@ -3,7 +3,7 @@ use Rattle.rx_port.proofs.Lawfully.{begun_lawful, read_lawful, write_lawful, dec
 use Rattle.rx_port.proofs.laws.events_keep_the_law.Goals as goal
 
 pub returns-clause-begin : goal.returns-clause-begin
-returns-clause-begin c layout words views history seat object root call view h at alive there is = begun_lawful layout words views history seat view object call root h at alive there is
+returns-clause-begin c layout words views history seat object root call view h at alive there fits is = begun_lawful layout words views history seat view object call root h at alive there fits is
 
 pub returns-clause-read : goal.returns-clause-read
 returns-clause-read c layout words views history seat place view attempt h at alive is_open = read_lawful layout words views history seat view attempt _ h at alive is_open refl

@@ -2,7 +2,8 @@ use Rattle.std.proofs.Common.{[], List, sym, subst, arith, ap, ◌∙◌, length
 use Rattle.rx_port.specs.declared.views.View.{View}
 use Rattle.rx_port.specs.Lawful.{Lawful}
 use Rattle.rx_port.proofs.Seating.{seated_lawful, length-seated}
-use Rattle.rx_port.proofs.BankSteps.{ours_from}
+use Rattle.rx_port.specs.Plain.{whole_of}
+use Rattle.rx_port.proofs.BankSteps.{is_plain, seat_from}
 use Rattle.rx_port.proofs.banks.Bank.new.Goals as goal
 
 pub returns-clause-lawful : goal.returns-clause-lawful
@@ -12,12 +13,12 @@ returns-clause-lawful c = subst (λ (views : List View). Lawful c.args.layout c.
 pub invariant_of-result : goal.invariant_of-result
 invariant_of-result c = record {
   limits = c.parts-parts.ensures.limits;
+  many = ap length c.in_ok-desks.ensures ∙ length-seated c.args.layout c.in_ok-words.words.items c.parts-parts.ensures.limits c.in_ok-words.ensures c.args.layout.seats;
+  plain = is_plain c.in_ok-desks.desks.items;
   history = [];
-  lawful = subst (λ (views : List View). Lawful c.args.layout c.in_ok-words.words.items views []) (sym c.in_ok-desks.ensures)
-      (seated_lawful c.args.layout c.in_ok-words.words.items c.parts-parts.ensures.limits c.in_ok-words.ensures c.args.layout.seats (omega arith));
+  lawful = returns-clause-lawful c;
 }
 
 pub returns-clause-ours : goal.returns-clause-ours
-returns-clause-ours c seat below =
-    let many = ap length c.in_ok-desks.ensures ∙ length-seated c.args.layout c.in_ok-words.words.items c.parts-parts.ensures.limits c.in_ok-words.ensures c.args.layout.seats in
-    ours_from c.args.layout c.in_ok-words.words.items c.in_ok-desks.desks.items c.default.result [] seat (returns-clause-lawful c) (omega arith)
+returns-clause-ours c seat below = seat_from (whole_of c.args.layout c.in_ok-words.words.items c.in_ok-desks.desks.items c.default.result) (invariant_of-result c) seat
+    (let many = (invariant_of-result c).many in omega arith)

@@ -13,17 +13,17 @@ place_at-place-requires-clause-number c =
     let ours = rw (← c.self.view_is) at c.requires.ours in
     let exists = rw (← c.self.view_is) at c.requires.exists in
     let below = rw (← c.self.view_is) at c.requires.open.below in
-    let same = desk_is c.self.inside.layout c.self.inside.words.items c.self.inside.desks.items c.self.inside.counts c.args.seat.now ours.0 c.index.result.now c.index.ensures in
+    let same = desk_is c.self.inside.layout c.self.inside.words.items c.self.inside.desks.items c.self.inside.counts c.args.seat.now ours.there c.index.result.now c.index.ensures in
     subst (λ (v : View). c.args.own < length (own_of v c.args.object)) (sym same)
-    (own_in_words c.self.inside.layout (view_at (plain_core c.self.inside.words.items c.self.inside.desks.items c.self.inside.counts) c.args.seat.now) c.args.object c.args.own ours.2 exists below).0
+    (own_in_words c.self.inside.layout (view_at (plain_core c.self.inside.words.items c.self.inside.desks.items c.self.inside.counts) c.args.seat.now) c.args.object c.args.own ours.owns exists below).0
 
 pub index_mut-requires : goal.index_mut-requires
 index_mut-requires c =
     let ours = rw (← c.self.view_is) at c.requires.ours in
     let exists = rw (← c.self.view_is) at c.requires.exists in
     let below = rw (← c.self.view_is) at c.requires.open.below in
-    let same = desk_is c.self.inside.layout c.self.inside.words.items c.self.inside.desks.items c.self.inside.counts c.args.seat.now ours.0 c.index.result.now c.index.ensures in
-    let there = (own_in_words c.self.inside.layout (view_at (plain_core c.self.inside.words.items c.self.inside.desks.items c.self.inside.counts) c.args.seat.now) c.args.object c.args.own ours.2 exists below).1 in
+    let same = desk_is c.self.inside.layout c.self.inside.words.items c.self.inside.desks.items c.self.inside.counts c.args.seat.now ours.there c.index.result.now c.index.ensures in
+    let there = (own_in_words c.self.inside.layout (view_at (plain_core c.self.inside.words.items c.self.inside.desks.items c.self.inside.counts) c.args.seat.now) c.args.object c.args.own ours.owns exists below).1 in
     let place : c.place_at-place.result ≡ slice_index (own_of (view_at (plain_core c.self.inside.words.items c.self.inside.desks.items c.self.inside.counts) c.args.seat.now) c.args.object) c.args.own =
     c.place_at-place.ensures ∙ ap (λ (v : View). slice_index (own_of v c.args.object) c.args.own) same in
     let size = c.self.invariant.lawful.size in omega arith
@@ -34,11 +34,11 @@ invariant_of-self c =
     let below = rw (← c.self.view_is) at c.requires.open.below in
     let is = rw (← c.self.view_is) at c.requires.open.is in
     let on = c.requires.open.on in
-    let same = desk_is c.self.inside.layout c.self.inside.words.items c.self.inside.desks.items c.self.inside.counts c.args.seat.now ours.0 c.index.result.now c.index.ensures in
+    let same = desk_is c.self.inside.layout c.self.inside.words.items c.self.inside.desks.items c.self.inside.counts c.args.seat.now ours.there c.index.result.now c.index.ensures in
     let place : c.place_at-place.result ≡ slice_index (own_of (view_at (plain_core c.self.inside.words.items c.self.inside.desks.items c.self.inside.counts) c.args.seat.now) c.requires.open.attempt.object) c.args.own =
     c.place_at-place.ensures ∙ ap (λ (v : View). slice_index (own_of v c.args.object) c.args.own) same
     ∙ ap (λ (n : ℕ). slice_index (own_of (view_at (plain_core c.self.inside.words.items c.self.inside.desks.items c.self.inside.counts) c.args.seat.now) n) c.args.own) (sym on) in
-    (wrote_from c.self.inside.layout c.self.inside.words.items c.self.inside.desks.items c.self.inside.counts c.args.seat.now ours.0 c.self.invariant c.write.new.desk c.index_mut-2.result.now c.index_mut-2.ensures.value
+    (wrote_from c.self.inside.layout c.self.inside.words.items c.self.inside.desks.items c.self.inside.counts c.args.seat.now ours.there c.self.invariant c.write.new.desk c.index_mut-2.result.now c.index_mut-2.ensures.value
     c.requires.open.attempt c.args.own c.args.value c.place_at-place.result is (subst (λ (n : ℕ). c.args.own < stock_size (part_at c.self.inside.layout.parts n)) (sym on) below) c.requires.open.new place c.write.ensures).0
 
 pub returns-clause-event : goal.returns-clause-event
@@ -47,15 +47,20 @@ returns-clause-event c attempt open_is =
     let below = rw (← c.self.view_is) at c.requires.open.below in
     let is = rw (← c.self.view_is) at c.requires.open.is in
     let on = c.requires.open.on in
-    let same = desk_is c.self.inside.layout c.self.inside.words.items c.self.inside.desks.items c.self.inside.counts c.args.seat.now ours.0 c.index.result.now c.index.ensures in
+    let same = desk_is c.self.inside.layout c.self.inside.words.items c.self.inside.desks.items c.self.inside.counts c.args.seat.now ours.there c.index.result.now c.index.ensures in
     let place : c.place_at-place.result ≡ slice_index (own_of (view_at (plain_core c.self.inside.words.items c.self.inside.desks.items c.self.inside.counts) c.args.seat.now) c.requires.open.attempt.object) c.args.own =
     c.place_at-place.ensures ∙ ap (λ (v : View). slice_index (own_of v c.args.object) c.args.own) same
     ∙ ap (λ (n : ℕ). slice_index (own_of (view_at (plain_core c.self.inside.words.items c.self.inside.desks.items c.self.inside.counts) c.args.seat.now) n) c.args.own) (sym on) in
     let one : c.requires.open.attempt ≡ attempt = attempt_is _ c.requires.open.attempt attempt c.requires.open.is open_is in
-    rw (← c.self.view_is, ← one) (wrote_from c.self.inside.layout c.self.inside.words.items c.self.inside.desks.items c.self.inside.counts c.args.seat.now ours.0 c.self.invariant c.write.new.desk c.index_mut-2.result.now c.index_mut-2.ensures.value
+    rw (← c.self.view_is, ← one) (wrote_from c.self.inside.layout c.self.inside.words.items c.self.inside.desks.items c.self.inside.counts c.args.seat.now ours.there c.self.invariant c.write.new.desk c.index_mut-2.result.now c.index_mut-2.ensures.value
     c.requires.open.attempt c.args.own c.args.value c.place_at-place.result is (subst (λ (n : ℕ). c.args.own < stock_size (part_at c.self.inside.layout.parts n)) (sym on) below) c.requires.open.new place c.write.ensures).1
 
 pub returns-clause-ours : goal.returns-clause-ours
 returns-clause-ours c =
     let ours = rw (← c.self.view_is) at c.requires.ours in
-    still_ours c.self.inside.layout c.self.inside.words.items c.self.inside.desks.items c.self.inside.counts c.args.seat.now ours.0 (set c.self.inside.words.items c.place_at-place.result c.args.value) (one_store c.self.inside.counts) c.write.new.desk (invariant_of-self c)
+    still_ours c.self.inside.layout c.self.inside.words.items c.self.inside.desks.items c.self.inside.counts c.args.seat.now ours.there (set c.self.inside.words.items c.place_at-place.result c.args.value) (one_store c.self.inside.counts) c.write.new.desk (invariant_of-self c) c.args.seat.now ours.there
+
+pub returns-clause-others : goal.returns-clause-others
+returns-clause-others c other h =
+    let ours = rw (← c.self.view_is) at c.requires.ours in
+    still_ours c.self.inside.layout c.self.inside.words.items c.self.inside.desks.items c.self.inside.counts c.args.seat.now ours.there (set c.self.inside.words.items c.place_at-place.result c.args.value) (one_store c.self.inside.counts) c.write.new.desk (invariant_of-self c) other (rw (← c.self.view_is) at h).there
