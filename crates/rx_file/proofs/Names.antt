@@ -1,15 +1,14 @@
 -- The object of a name.
-use Rattle.std.proofs.Common.{◌≡◌, ◌<◌, ◌≤◌, ◌∙◌, ℕ, suc, ◌+◌, Bool, true, false, not, ◌||◌, List, [], ◌∷◌, length, map, get_or, refl, ap, sym, arith, Option, Some, None, is_some, cond, nat_lt}
+use Rattle.std.proofs.Common.{◌≡◌, ◌<◌, ◌∙◌, ℕ, suc, ◌+◌, Bool, true, false, not, ◌||◌, List, [], ◌∷◌, length, map, get_or, refl, ap, arith, Some, None, is_some, cond, nat_lt}
 use Rattle.std.specs.List.{list_any, position, position_or_len}
 use Rattle.std.specs.Str.{bytes_eq}
 use Rattle.std.proofs.lemmas.Bool.{lt-ltb, le-ltb}
 use Rattle.std.proofs.lemmas.Bool.Decides.{nat_tests}
 use Rattle.std.proofs.lemmas.List.{length-map, get_or-map}
 use Rattle.std.proofs.lemmas.List.Sums.{position_or_len_is}
-use Rattle.rx_seq.specs.declared.kinds.Part.{Part}
 use Rattle.rx_seq.specs.History.{no_part, part_at}
 use Rattle.rx_set.specs.declared.objects.Object.{Object}
-use Rattle.rx_set.specs.System.{ObjectRow, part_of_row}
+use Rattle.rx_set.specs.System.{part_of_row}
 use Rattle.rx_set.specs.Valid.{object_name}
 use Rattle.rx_set.specs.View.{object_row}
 use Rattle.rx_file.specs.Fields.{is_taken}

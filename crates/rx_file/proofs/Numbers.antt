@@ -4,7 +4,7 @@ use Rattle.std.specs.Option.{option_and_then}
 use Rattle.rx_file.specs.declared.shapes.Verb.{Verb}
 use Rattle.rx_file.specs.declared.shapes.Verb.TheVariants.{Get, Set, Add, Swap}
 use Rattle.rx_file.specs.Texts.{word_number}
-use Rattle.rx_file.specs.Shapes.{call_of, call_with, with_number, numbers_of}
+use Rattle.rx_file.specs.Shapes.{call_of, with_number, numbers_of}
 use Rattle.rx_file.specs.Gives.{HaveNoCall}
 
 -- these numbers stand before those of a text

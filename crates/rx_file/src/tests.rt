@@ -1,6 +1,7 @@
 use super::{FileFault, Label, Section, number_of, read_set};
 use rx_seq::Call;
 use rx_set::Item;
+use std::alloc::Global;
 use std::test::Fail;
 
 fn field(section: Section, row: u32, label: Label) -> FileFault {
@@ -16,6 +17,17 @@ fn range(section: Section, row: u32, label: Label) -> FileFault {
         section,
         row,
         label,
+    }
+}
+
+/// The fault of a text that is no longer than a file may be.
+fn fault_of(alloc: Global, text: &str) -> Option<FileFault> {
+    if text.len() > 1_048_576 {
+        return None;
+    }
+    match read_set(alloc, text.as_bytes()) {
+        Ok(_) => None,
+        Err(fault) => Some(fault),
     }
 }
 
@@ -139,10 +151,7 @@ fn first_faults(rt: HostRuntime) -> Result<(), Fail> {
         ),
     ];
     for (text, expected) in cases {
-        match read_set(rt.alloc(), text.as_bytes()) {
-            Ok(_) => assert!(rt; false, "no fault in {text}"),
-            Err(found) => assert_eq!(rt; found, expected),
-        }
+        assert_eq!(rt; fault_of(rt.alloc(), text), Some(expected));
     }
     Ok(())
 }
