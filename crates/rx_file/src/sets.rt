@@ -36,11 +36,8 @@ fn object_rows<'a>(file: &'a Table) -> Result<&'a [Value], FileFault>
     ensures value { Shows (λ rows. items_view rows.now) (object_rows (table_view file.now)) result }
     ensures few { IfOk result (λ rows. length rows.now ≤ 16) }
 {
-    up_to(
-        16,
-        Section::Object,
-        array_or_empty(TOP, Label::Object, file)?,
-    )
+    let rows = array_or_empty(TOP, Label::Object, file)?;
+    up_to(16, Section::Object, rows)
 }
 
 /// The array at `task`.
