@@ -1,3 +1,5 @@
 pub mod Words
 pub mod Read
 pub mod Valid
+pub mod Numbers
+pub mod Names

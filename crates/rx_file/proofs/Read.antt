@@ -1,5 +1,5 @@
 -- Steps of the readers.
-use Rattle.std.proofs.Common.{◌≡◌, ◌<◌, ◌+◌, ℕ, Bool, true, false, ◌||◌, List, [], ◌∷◌, ◌++◌, length, get_or, drop, refl, arith, Ok, Err, None, Some}
+use Rattle.std.proofs.Common.{◌≡◌, ℕ, Bool, true, false, ◌||◌, List, [], ◌∷◌, ◌++◌, length, refl, arith, Ok, Err, None, Some}
 use Rattle.std.specs.List.{list_any}
 use Rattle.std.specs.Str.{bytes_eq, is_utf8, IsUtf8}
 use Rattle.std.proofs.lemmas.List.Folds.{list_any-append}
@@ -8,15 +8,12 @@ use Rattle.std.proofs.lemmas.Str.{IsUtf8-from_is_utf8, is_utf8-from_IsUtf8}
 use Rattle.toml.specs.declared.value.Value.{Value}
 use Rattle.toml.specs.Data.{Members}
 use Rattle.toml.specs.Parse.{parse_document}
-use Rattle.toml.specs.View.{view, items_view}
-use Rattle.toml.proofs.Views.{items_view-drop}
-use Rattle.rx_set.specs.declared.items.Item.{Item}
+use Rattle.toml.specs.View.{items_view}
 use Rattle.rx_set.specs.Names.{has_repeat}
-use Rattle.rx_set.specs.System.{TaskRow}
-use Rattle.rx_file.specs.declared.faults.FileFault.{FileFault}
 use Rattle.rx_file.specs.declared.faults.FileFault.TheVariants.{NotToml}
 use Rattle.rx_file.specs.Fields.{is_taken}
-use Rattle.rx_file.specs.SetOf.{items_len, item_of, items_after, task_of_value, tasks_after, file_of}
+use Rattle.rx_file.specs.Arrays.{items_len}
+use Rattle.rx_file.specs.SetOf.{file_of}
 
 pub items_len_view : (values : List Value) → items_len (items_view values) ≡ length values
 items_len_view [] = refl
@@ -34,28 +31,6 @@ of_text bytes text file same h e = rw (is_utf8-from_IsUtf8 bytes h, ← same, e)
 pub no_document : (bytes text : List ℕ) → text ≡ bytes → IsUtf8 bytes → parse_document text ≡ None → file_of bytes ≡ Err NotToml
 unfolding file_of
 no_document bytes text same h e = rw (is_utf8-from_IsUtf8 bytes h, ← same, e) refl
-
--- one more item, and an item that is none
-pub item_next : (task : ℕ) (before : List Item) (values : List Value) (index : ℕ) (d : Value) (next : Item)
-    → index < length values → item_of task (length before + 1) (view (get_or values index d)) ≡ Ok next
-    → items_after task before (items_view (drop index values)) ≡ items_after task (before ++ next ∷ []) (items_view (drop (index + 1) values))
-item_next task before values index d next within e = rw (items_view-drop values index d within, e) refl
-
-pub item_fault : (task : ℕ) (before : List Item) (values : List Value) (index : ℕ) (d : Value) (fault : FileFault)
-    → index < length values → item_of task (length before + 1) (view (get_or values index d)) ≡ Err fault
-    → items_after task before (items_view (drop index values)) ≡ Err fault
-item_fault task before values index d fault within e = rw (items_view-drop values index d within, e) refl
-
--- one more task, and a row that is none
-pub task_next : (before : List TaskRow) (values : List Value) (index : ℕ) (d : Value) (next : TaskRow)
-    → index < length values → task_of_value before (view (get_or values index d)) ≡ Ok next
-    → tasks_after before (items_view (drop index values)) ≡ tasks_after (before ++ next ∷ []) (items_view (drop (index + 1) values))
-task_next before values index d next within e = rw (items_view-drop values index d within, e) refl
-
-pub task_fault : (before : List TaskRow) (values : List Value) (index : ℕ) (d : Value) (fault : FileFault)
-    → index < length values → task_of_value before (view (get_or values index d)) ≡ Err fault
-    → tasks_after before (items_view (drop index values)) ≡ Err fault
-task_fault before values index d fault within e = rw (items_view-drop values index d within, e) refl
 
 bool_step : (a b c d : Bool) → ((a || (b || false)) || (c || d)) ≡ ((a || c) || (b || d))
 bool_step true b c d = refl

@@ -1,8 +1,8 @@
 -- The keys of a table, and what stands there.
-use Rattle.std.specs.Prelude.{ℕ, ℤ, pos, negsuc, ◌&&◌, nat_le, Bool, true, if◌then◌else◌, List, codes, Option, Some, None, Result, Ok, Err, ok_or, ⊤}
+use Rattle.std.specs.Prelude.{ℕ, ℤ, pos, negsuc, ◌&&◌, nat_le, Bool, true, if◌then◌else◌, List, codes, Option, Some, None, is_none, Result, Ok, Err, ok_or, ⊤}
 use Rattle.std.specs.List.{list_any}
 use Rattle.std.specs.Str.{bytes_eq}
-use Rattle.toml.specs.Data.{Data, Items, Members, no_members, member, get_member, as_str, as_integer, as_array}
+use Rattle.toml.specs.Data.{Data, Members, no_members, member, get_member, as_str, as_integer}
 use Rattle.rx_set.specs.Names.{is_name}
 use Rattle.rx_file.specs.declared.faults.Label.{Label}
 use Rattle.rx_file.specs.declared.faults.Label.TheVariants as label
@@ -17,6 +17,9 @@ field place what = Field place.section place.row what
 
 abbrev pub range : Place → Label → FileFault
 range place what = Range place.section place.row what
+
+abbrev pub repeat : Place → FileFault
+repeat place = Repeat place.section place.row
 
 -- the key that a label stands for; two labels stand for none
 abbrev pub key_of : Label → List ℕ
@@ -41,16 +44,11 @@ key_of label.Other = codes ""
 unfoldable pub value_at : Place → Label → Members → Result Data FileFault
 value_at place what row = ok_or (get_member (key_of what) row) (field place what)
 
--- the string and the array at a key
+-- the string at a key
 unfoldable pub text_at : Place → Label → Members → Result (List ℕ) FileFault
 text_at place what row = do
   value ← value_at place what row
   ok_or (as_str value) (field place what)
-
-unfoldable pub array_at : Place → Label → Members → Result Items FileFault
-array_at place what row = do
-  value ← value_at place what row
-  ok_or (as_array value) (field place what)
 
 -- the name at `name`
 unfoldable pub name_at : Place → Members → Result (List ℕ) FileFault
@@ -63,7 +61,7 @@ abbrev pub is_taken : List (List ℕ) → List ℕ → Bool
 is_taken earlier name = list_any (λ other. bytes_eq other name) earlier
 
 unfoldable pub is_new : Place → List (List ℕ) → List ℕ → Result ⊤ FileFault
-is_new place earlier name = if is_taken earlier name then Err (Repeat place.section place.row) else Ok tt
+is_new place earlier name = if is_taken earlier name then Err (repeat place) else Ok tt
 
 -- an integer from least to most
 abbrev pub in_range : Place → Label → ℕ → ℕ → ℤ → Result ℕ FileFault
@@ -88,6 +86,10 @@ number_or_default place what default least most (Some value) = number_in place w
 
 unfoldable pub number_or : Place → Label → ℕ → ℕ → ℕ → Members → Result ℕ FileFault
 number_or place what default least most row = number_or_default place what default least most (get_member (key_of what) row)
+
+-- a key that must not stand
+unfoldable pub no_key : Place → Label → Members → Result ⊤ FileFault
+no_key place what row = if is_none (get_member (key_of what) row) then Ok tt else Err (field place what)
 
 -- a key is that of one of the labels
 abbrev pub is_key : List Label → List ℕ → Bool

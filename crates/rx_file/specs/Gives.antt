@@ -1,13 +1,16 @@
 -- What a reading gives: what its definition says, unless there was no memory.
-use Rattle.std.specs.Prelude.{◌≡◌, ◌≢◌, ◌≤◌, List, map, false, Result, Ok, Err}
+use Rattle.std.specs.Prelude.{ℕ, ◌≡◌, ◌≢◌, ◌≤◌, List, [], map, false, None, Result, Ok, Err}
 use Rattle.std.specs.List.{All}
-use Rattle.rx_set.specs.declared.items.Item.{Item}
-use Rattle.rx_set.specs.declared.items.Item.TheVariants.{Work, Op}
+use Rattle.rx_set.specs.declared.policies.Policy.TheVariants.{Rm}
 use Rattle.rx_set.specs.Names.{has_repeat}
-use Rattle.rx_set.specs.System.{TaskRow, System}
-use Rattle.rx_set.specs.Valid.{IsTaskRow, task_name}
+use Rattle.rx_set.specs.System.{ObjectRow, TaskRow, System}
+use Rattle.rx_set.specs.Valid.{IsObjectRow, IsTaskRow, object_name, task_name}
 use Rattle.rx_file.specs.declared.faults.FileFault.{FileFault}
 use Rattle.rx_file.specs.declared.faults.FileFault.TheVariants.{NoMemory}
+use Rattle.rx_file.specs.declared.shapes.Verb.{Verb}
+use Rattle.rx_file.specs.declared.shapes.Shape.{Shape as Spelled}
+use Rattle.rx_file.specs.declared.shapes.Shape.TheVariants as spelled
+use Rattle.rx_file.specs.Shapes.{Shape, Work, On, call_with}
 
 -- a fault is the one that is expected; want of memory says nothing
 abbrev pub FaultGives : Result System FileFault → FileFault → Type 0
@@ -29,16 +32,31 @@ abbrev pub Gives : {X Y : Type 0} → (X → Y) → Result Y FileFault → Resul
 Gives view expected (Ok x) = expected ≡ Ok (view x)
 Gives view expected (Err fault) = fault ≢ NoMemory → expected ≡ Err fault
 
--- the work of 1 to 1,000,000 ticks
-abbrev pub IsWorkItem : Item → Type 0
-IsWorkItem (Work ticks) = (1 ≤ ticks) × (ticks ≤ 1000000)
-IsWorkItem (Op object call) = ⊥
+-- what a shape in memory spells
+abbrev pub shape_view : Spelled → Shape
+shape_view (spelled.Work ticks) = Work ticks
+shape_view (spelled.On object call) = On object.now call
 
--- a row is valid in each system
-abbrev pub IsGoodRow : TaskRow → Type 0
-IsGoodRow row = (system : System) → IsTaskRow system row
+-- ticks of work are 1 to 1,000,000
+abbrev pub HasTicks : Spelled → Type 0
+HasTicks (spelled.Work ticks) = (1 ≤ ticks) × (ticks ≤ 1000000)
+HasTicks (spelled.On object call) = Unit {0}
 
--- the rows are valid and their names differ
-pub record AreGoodRows (rows : List TaskRow) : Type 0 where
-  pub good : All IsGoodRow rows
-  pub names : has_repeat (map task_name rows) ≡ false
+-- no call of any verb is complete with these words after the object's name
+abbrev pub HaveNoCall : List (List ℕ) → Type 0
+HaveNoCall words = (verb : Verb) → call_with verb words ≡ None
+
+-- the system of some objects alone, among which items and tasks are judged
+abbrev pub alone : List ObjectRow → System
+alone objects = record { policy = Rm; objects = objects; tasks = []; demands = [] }
+
+-- all rows are good, and their names differ
+pub record AreRows {X : Type 0} (IsGood : X → Type 0) (name_of : X → List ℕ) (rows : List X) : Type 0 where
+  pub good : All IsGood rows
+  pub names : has_repeat (map name_of rows) ≡ false
+
+abbrev pub AreObjects : List ObjectRow → Type 0
+AreObjects rows = AreRows IsObjectRow object_name rows
+
+abbrev pub AreTasks : List ObjectRow → List TaskRow → Type 0
+AreTasks objects rows = AreRows (IsTaskRow (alone objects)) task_name rows

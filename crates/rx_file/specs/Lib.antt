@@ -1,6 +1,10 @@
 pub mod Steps
 pub mod Texts
+pub mod Shapes
 pub mod Fields
+pub mod Arrays
+pub mod Objects
+pub mod Items
 pub mod SetOf
 pub mod Gives
 pub mod OnLiterals

@@ -4,7 +4,8 @@ ghost use Rattle.std.specs.List.{list_all};
 ghost use Rattle.toml.specs.Data.{get_member};
 ghost use Rattle.toml.specs.View.{view, items_view, table_view};
 ghost use Rattle.rx_set.specs.Names.{is_name, is_name_byte};
-ghost use Rattle.rx_file.specs.Fields.{key_of, value_at, text_at, array_at, name_at, in_range, number_in, number_at, number_or, is_key, has_only, only_keys};
+ghost use Rattle.rx_file.specs.Fields.{key_of, value_at, text_at, name_at, in_range, number_in, number_at, number_or, no_key, is_key, has_only, only_keys};
+ghost use Rattle.rx_file.specs.Arrays.{array_at, array_or_empty};
 ghost use Rattle.rx_file.specs.Gives.{Shows};
 
 use crate::faults::{FileFault, Label};
@@ -29,7 +30,7 @@ fn value_at<'a>(place: Place, label: Label, row: &'a Table) -> Result<&'a Value,
 
 /// The string at a key.
 #[tactic(auto, unfolding(crate::specs::Fields::text_at))]
-fn text_at<'a>(place: Place, label: Label, row: &'a Table) -> Result<&'a str, FileFault>
+pub(crate) fn text_at<'a>(place: Place, label: Label, row: &'a Table) -> Result<&'a str, FileFault>
     ensures { Shows (λ text. text.now) (text_at place label (table_view row.now)) result }
 {
     value_at(place, label, row)?
@@ -37,8 +38,8 @@ fn text_at<'a>(place: Place, label: Label, row: &'a Table) -> Result<&'a str, Fi
         .ok_or(place.field(label))
 }
 
-/// The array at a key.
-#[tactic(auto, unfolding(crate::specs::Fields::array_at))]
+/// The array at a key that must stand.
+#[tactic(auto, unfolding(crate::specs::Arrays::array_at))]
 pub(crate) fn array_at<'a>(
     place: Place,
     label: Label,
@@ -49,6 +50,21 @@ pub(crate) fn array_at<'a>(
     match value_at(place, label, row)?.as_array() {
         Some(rows) => Ok(rows.as_slice()),
         None => Err(place.field(label)),
+    }
+}
+
+/// The array at a key that may be left out, which is then empty.
+#[tactic(auto, unfolding(crate::specs::Fields::value_at, crate::specs::Arrays::array_at, crate::specs::Arrays::array_or_empty))]
+pub(crate) fn array_or_empty<'a>(
+    place: Place,
+    label: Label,
+    row: &'a Table,
+) -> Result<&'a [Value], FileFault>
+    ensures { Shows (λ rows. items_view rows.now) (array_or_empty place label (table_view row.now)) result }
+{
+    match find(row, label) {
+        Some(_) => array_at(place, label, row),
+        None => Ok(&[]),
     }
 }
 
@@ -163,6 +179,17 @@ pub(crate) fn number_or(
     match find(row, label) {
         Some(value) => number_in(place, label, least, most, value),
         None => Ok(default),
+    }
+}
+
+/// Refuses a key that must not stand.
+#[tactic(auto, unfolding(crate::specs::Fields::no_key))]
+pub(crate) fn no_key(place: Place, label: Label, row: &Table) -> Result<(), FileFault>
+    ensures { result ≡ no_key place label (table_view row.now) }
+{
+    match find(row, label) {
+        Some(_) => Err(place.field(label)),
+        None => Ok(()),
     }
 }
 

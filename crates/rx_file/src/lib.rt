@@ -1,12 +1,14 @@
-//! Reads a task file, a document in TOML, into a set of tasks, and names the first fault of one that is no set.
+//! Reads a task file, a document in TOML, into a set of tasks and objects, and names the first fault of one that is no set.
 #![tactic(auto)]
 
 mod faults;
 mod fields;
 mod items;
+mod objects;
 mod places;
-mod rows;
 mod sets;
+mod shapes;
+mod tasks;
 #[cfg(test)]
 mod tests;
 mod texts;

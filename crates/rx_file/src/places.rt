@@ -1,6 +1,6 @@
 // Places in a task file, and the keys there.
 ghost use Rattle.std.specs.Prelude.{◌≡◌};
-ghost use Rattle.rx_file.specs.Fields.{field, range, key_of};
+ghost use Rattle.rx_file.specs.Fields.{field, range, repeat, key_of};
 
 use crate::faults::{FileFault, Label, Section};
 
@@ -37,6 +37,16 @@ impl Place {
             section: self.section,
             row: self.row,
             label,
+        }
+    }
+
+    /// A name that an earlier row of the section has.
+    pub(crate) fn repeat(self) -> FileFault
+        ensures { result ≡ repeat self }
+    {
+        FileFault::Repeat {
+            section: self.section,
+            row: self.row,
         }
     }
 }

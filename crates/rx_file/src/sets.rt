@@ -1,19 +1,47 @@
 // The set of a task file.
-ghost use Rattle.std.specs.Prelude.{◌≤◌, length, IfOk};
+ghost use Rattle.std.specs.Prelude.{◌≡◌, ◌≤◌, length, IfOk};
 ghost use Rattle.toml.specs.View.{items_view, table_view};
-ghost use Rattle.rx_file.specs.SetOf.{task_rows, set_of_file, file_of, set_of};
+ghost use Rattle.rx_file.specs.Arrays.{up_to};
+ghost use Rattle.rx_file.specs.SetOf.{object_rows, task_rows, set_of_file, file_of, set_of};
 ghost use Rattle.rx_file.specs.Gives.{Shows, Gives, SetGives};
 
 use crate::faults::{FileFault, Label, Section};
-use crate::fields::{array_at, only_keys};
+use crate::fields::{array_at, array_or_empty, only_keys};
+use crate::objects::read_objects;
 use crate::places::TOP;
-use crate::rows::read_rows;
+use crate::tasks::read_tasks;
 use rx_set::{Policy, TaskSet};
 use std::alloc::Global;
 use toml::{Table, Value};
 
+/// Refuses more rows of a section than it may have.
+#[tactic(auto, using(crate::proofs::Read::items_len_view), unfolding(crate::specs::Arrays::up_to))]
+fn up_to(most: usize, section: Section, rows: &[Value]) -> Result<&[Value], FileFault>
+    ensures value { Shows (λ rows. items_view rows.now) (up_to most section (items_view rows.now)) result }
+    ensures few { IfOk result (λ rows. length rows.now ≤ most) }
+    ensures same { IfOk result (λ few. few.now ≡ rows.now) }
+{
+    if rows.len() > most {
+        return Err(FileFault::TooMany {
+            section,
+            count: rows.len() as u64,
+        });
+    }
+    Ok(rows)
+}
+
+/// The array at `object`.
+#[tactic(auto, unfolding(crate::specs::SetOf::object_rows))]
+fn object_rows<'a>(file: &'a Table) -> Result<&'a [Value], FileFault>
+    ensures value { Shows (λ rows. items_view rows.now) (object_rows (table_view file.now)) result }
+    ensures few { IfOk result (λ rows. length rows.now ≤ 16) }
+{
+    let rows = array_or_empty(TOP, Label::Object, file)?;
+    up_to(16, Section::Object, rows)
+}
+
 /// The array at `task`.
-#[tactic(auto, using(crate::proofs::Read::items_len_view), unfolding(crate::specs::SetOf::task_rows, crate::specs::SetOf::some_rows, crate::specs::SetOf::up_to))]
+#[tactic(auto, using(crate::proofs::Read::items_len_view), unfolding(crate::specs::SetOf::task_rows, crate::specs::SetOf::some_rows))]
 fn task_rows<'a>(file: &'a Table) -> Result<&'a [Value], FileFault>
     ensures value { Shows (λ rows. items_view rows.now) (task_rows (table_view file.now)) result }
     ensures length { IfOk result (λ rows. (1 ≤ length rows.now) × (length rows.now ≤ 32)) }
@@ -22,13 +50,7 @@ fn task_rows<'a>(file: &'a Table) -> Result<&'a [Value], FileFault>
     if rows.is_empty() {
         return Err(TOP.range(Label::Task));
     }
-    if rows.len() > 32 {
-        return Err(FileFault::TooMany {
-            section: Section::Task,
-            count: rows.len() as u64,
-        });
-    }
-    Ok(rows)
+    up_to(32, Section::Task, rows)
 }
 
 /// The set of a document.
@@ -36,10 +58,12 @@ fn task_rows<'a>(file: &'a Table) -> Result<&'a [Value], FileFault>
 fn read_file(alloc: Global, file: &Table) -> Result<TaskSet, FileFault>
     ensures { Gives (λ set. set) (set_of_file (table_view file.now)) result }
 {
-    let rows = task_rows(file)?;
-    only_keys(TOP, &[Label::Task], file)?;
-    let tasks = read_rows(alloc, rows)?;
-    Ok(TaskSet::build(Policy::Rm, tasks))
+    let of_objects = object_rows(file)?;
+    let of_tasks = task_rows(file)?;
+    only_keys(TOP, &[Label::Object, Label::Task], file)?;
+    let objects = read_objects(alloc, of_objects)?;
+    let tasks = read_tasks(alloc, objects.as_slice(), of_tasks)?;
+    Ok(TaskSet::build(Policy::Rm, objects, tasks))
 }
 
 /// The document that bytes write.
@@ -63,17 +87,27 @@ fn read_document(alloc: Global, bytes: &[u8]) -> Result<Table, FileFault>
 }
 
 /// Reads a task file into a set of tasks, or answers its first fault. The file is a document in TOML, of at most
-/// 1,048,576 bytes, whose only key is `task`: an array of 1 to 32 tables. Each has
+/// 1,048,576 bytes, whose only keys are `object` and `task`.
 ///
-/// - `name`, a string: 1 to 16 ASCII letters, digits and `_`, the first a letter, and not the name of an earlier task;
+/// `object` is an array of at most 16 tables, and empty where it is left out. Each has
+///
+/// - `name`, a string: 1 to 16 ASCII letters, digits and `_`, the first a letter, and not the name of an earlier object;
+/// - `kind`, the string `cell`. The kinds `queue`, `list` and `registers` are out of range in this version. A cell has
+///   no `capacity`.
+///
+/// `task` is an array of 1 to 32 tables. Each has
+///
+/// - `name`, of the same form, and not the name of an earlier task;
 /// - `period`, an integer from 1 to 1,000,000;
 /// - `deadline`, an integer from 1 to the period, which is the period where it is left out;
 /// - `offset`, an integer from 0 to 1,000,000, which is 0 where it is left out;
-/// - `body`, an array of 1 to 64 strings of the shape `work n`, with n from 1 to 1,000,000 in up to 10 digits.
+/// - `body`, an array of 1 to 64 strings, the items: `work n`, with n from 1 to 1,000,000, or a call on the object o,
+///   `get o`, `set o v`, `add o v` or `swap o x y`, whose numbers are at most 16,777,215. Numbers have up to 10 digits.
 ///
-/// The policy is rate monotonic. The keys at the top are looked at first, and then the rows in order, each key by key
-/// in the order of this list, then for other keys, then item by item. `NoMemory` may come for any file, and says
-/// nothing of it. The cost grows with the number of bytes.
+/// The policy is rate monotonic. The two arrays and the other keys at the top are looked at first, then the rows of
+/// `object` and the rows of `task` in order, each key by key in the order of these lists, then for other keys, then item
+/// by item: its shape, its object, and whether the call fits. `NoMemory` may come for any file, and says nothing of it.
+/// The cost grows with the number of bytes, and for each item with the number of objects.
 #[tactic(auto, unfolding(crate::specs::SetOf::set_of))]
 pub fn read_set(alloc: Global, bytes: &[u8]) -> Result<TaskSet, FileFault>
     requires { length bytes.now ≤ 1048576 }

@@ -1,8 +1,8 @@
 // Words and numbers as text.
-ghost use Rattle.std.specs.Prelude.{◌≡◌, ◌≢◌, ◌≤◌, ◌<◌, [], ◌∷◌, length, true, drop, MatchOption};
+ghost use Rattle.std.specs.Prelude.{◌≡◌, ◌≢◌, ◌≤◌, ◌<◌, [], ◌∷◌, length, true, drop, IfSome, MatchOption};
 ghost use Rattle.std.specs.List.{list_all, position_or_len};
 ghost use Rattle.rx_set.specs.Names.{is_digit};
-ghost use Rattle.rx_file.specs.Texts.{is_number, number_of, value_of, word_number, within, is_space, words_of};
+ghost use Rattle.rx_file.specs.Texts.{is_number, number_of, value_of, word_number, is_space, words_of};
 
 /// Whether all bytes are digits.
 fn are_digits(word: &[u8]) -> bool
@@ -49,27 +49,14 @@ pub fn number_of(word: &[u8], most: usize) -> Option<u128>
     }
 }
 
-/// A number from least to most.
-pub(crate) fn within(least: u64, most: u64, number: Option<u128>) -> Option<u64>
-    ensures { result ≡ within least most number }
-{
-    match number {
-        Some(n) => {
-            if u128::from(least) <= n && n <= u128::from(most) {
-                Some(n as u64)
-            } else {
-                None
-            }
-        }
-        None => None,
-    }
-}
-
 /// The number of a number word.
-pub(crate) fn word_number(word: &[u8]) -> Option<u64>
+pub(crate) fn word_number(word: &[u8]) -> Option<u32>
     ensures { result ≡ word_number word.now }
 {
-    within(0, 4_294_967_295, number_of(word, 10))
+    match number_of(word, 10) {
+        Some(number) => u32::try_from(number).ok(),
+        None => None,
+    }
 }
 
 /// How many spaces a text begins with.
@@ -99,7 +86,8 @@ fn word_len(text: &[u8]) -> usize
 
 /// The first word of a text and what follows it, or `None` where there is no word.
 pub(crate) fn next_word(text: &[u8]) -> Option<(&[u8], &[u8])>
-    ensures { MatchOption result (words_of text.now ≡ []) (λ p. words_of text.now ≡ p.0.now ∷ words_of p.1.now) }
+    ensures words { MatchOption result (words_of text.now ≡ []) (λ p. words_of text.now ≡ p.0.now ∷ words_of p.1.now) }
+    ensures shorter { IfSome result (λ p. length p.1.now < length text.now) }
 {
     let start = spaces(text);
     if start == text.len() {

@@ -2,7 +2,7 @@ use Rattle.std.proofs.Common.{◌≡◌, drop, map}
 use Rattle.rx_set.specs.Valid.{task_name}
 use Rattle.rx_set.specs.View.{row_of}
 use Rattle.rx_file.specs.Fields.{is_taken}
-use Rattle.rx_file.proofs.rows.is_among.Given as goal
+use Rattle.rx_file.proofs.tasks.is_among.Given as goal
 
 abbrev pub invariant-loop-task : goal.invariant-loop-task
 invariant-loop-task l =

@@ -1,0 +1,16 @@
+use Rattle.std.proofs.Common.{◌≡◌, [], length, drop, map}
+use Rattle.toml.specs.View.{items_view}
+use Rattle.rx_set.specs.View.{object_row}
+use Rattle.rx_file.specs.Arrays.{all_after}
+use Rattle.rx_file.specs.Objects.{object_of_value}
+use Rattle.rx_file.specs.Gives.{AreObjects}
+use Rattle.rx_file.proofs.objects.read_objects.Given as goal
+
+abbrev pub invariant-loop-value : goal.invariant-loop-value
+invariant-loop-value l = record {
+  objects :
+      all_after object_of_value [] (items_view l.values)
+      ≡ all_after object_of_value (map object_row l.objects.items) (items_view (drop l.value-index l.values));
+  good : AreObjects (map object_row l.objects.items);
+  count : length l.objects.items ≡ l.value-index;
+}
