@@ -2,12 +2,12 @@
 ghost use Rattle.std.specs.Prelude.{◌≡◌, ◌≤◌, ◌<◌, false, length, map, IfOk, IfSome};
 ghost use Rattle.toml.specs.View.{view, items_view, table_view};
 ghost use Rattle.rx_seq.specs.Table.{IsPart};
-ghost use Rattle.rx_set.specs.Valid.{IsObjectRow, object_name};
+ghost use Rattle.rx_set.specs.Valid.{object_name};
 ghost use Rattle.rx_set.specs.View.{object_row};
 ghost use Rattle.rx_file.specs.Fields.{is_taken};
 ghost use Rattle.rx_file.specs.Objects.{kind_of, kind_at, part_of_table, object_of_table, object_of_value, objects_of};
 ghost use Rattle.rx_file.specs.Items.{object_of};
-ghost use Rattle.rx_file.specs.Gives.{Shows, Gives, AreObjects};
+ghost use Rattle.rx_file.specs.Gives.{Shows, Gives, AreObjects, IsCellRow};
 
 use crate::faults::{FileFault, Label, Section};
 use crate::fields::{name_at, no_key, only_keys, text_at};
@@ -65,6 +65,7 @@ fn kind_at(place: Place, row: &Table) -> Result<Kind, FileFault>
 fn part_of_table(place: Place, row: &Table) -> Result<Part, FileFault>
     ensures value { result ≡ part_of_table place (table_view row.now) }
     ensures part { IfOk result IsPart }
+    ensures cell { IfOk result (λ part. part.kind ≡ Kind.Cell) }
 {
     let kind = kind_at(place, row)?;
     no_key(place, Label::Capacity, row)?;
@@ -76,7 +77,7 @@ fn part_of_table(place: Place, row: &Table) -> Result<Part, FileFault>
 fn read_table(place: Place, before: &[Object], row: &Table) -> Result<Object, FileFault>
     requires { length before.now ≤ 16 }
     ensures object { Shows object_row (object_of_table place (map object_row before.now) (table_view row.now)) result }
-    ensures good { IfOk result (λ object. IsObjectRow (object_row object)) }
+    ensures good { IfOk result (λ object. IsCellRow (object_row object)) }
     ensures new { IfOk result (λ object. is_taken (map object_name (map object_row before.now)) object.name.bytes ≡ false) }
 {
     let name = name_at(place, row)?;
@@ -93,7 +94,7 @@ fn read_table(place: Place, before: &[Object], row: &Table) -> Result<Object, Fi
 fn read_row(before: &[Object], value: &Value) -> Result<Object, FileFault>
     requires { length before.now < 16 }
     ensures object { Shows object_row (object_of_value (map object_row before.now) (view value.now)) result }
-    ensures good { IfOk result (λ object. IsObjectRow (object_row object)) }
+    ensures good { IfOk result (λ object. IsCellRow (object_row object)) }
     ensures new { IfOk result (λ object. is_taken (map object_name (map object_row before.now)) object.name.bytes ≡ false) }
 {
     let place = Place {

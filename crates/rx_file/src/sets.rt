@@ -3,7 +3,7 @@ ghost use Rattle.std.specs.Prelude.{◌≡◌, ◌≤◌, length, IfOk};
 ghost use Rattle.toml.specs.View.{items_view, table_view};
 ghost use Rattle.rx_file.specs.Arrays.{up_to};
 ghost use Rattle.rx_file.specs.SetOf.{object_rows, task_rows, set_of_file, file_of, set_of};
-ghost use Rattle.rx_file.specs.Gives.{Shows, Gives, SetGives};
+ghost use Rattle.rx_file.specs.Gives.{Shows, Gives, SetGives, HasCells};
 
 use crate::faults::{FileFault, Label, Section};
 use crate::fields::{array_at, array_or_empty, only_keys};
@@ -56,7 +56,8 @@ fn task_rows<'a>(file: &'a Table) -> Result<&'a [Value], FileFault>
 /// The set of a document.
 #[tactic(auto, unfolding(crate::specs::SetOf::set_of_file))]
 fn read_file(alloc: Global, file: &Table) -> Result<TaskSet, FileFault>
-    ensures { Gives (λ set. set) (set_of_file (table_view file.now)) result }
+    ensures set { Gives (λ set. set) (set_of_file (table_view file.now)) result }
+    ensures cells { HasCells result }
 {
     let of_objects = object_rows(file)?;
     let of_tasks = task_rows(file)?;
@@ -111,7 +112,8 @@ fn read_document(alloc: Global, bytes: &[u8]) -> Result<Table, FileFault>
 #[tactic(auto, unfolding(crate::specs::SetOf::set_of))]
 pub fn read_set(alloc: Global, bytes: &[u8]) -> Result<TaskSet, FileFault>
     requires { length bytes.now ≤ 1048576 }
-    ensures { SetGives (set_of bytes.now) result }
+    ensures set { SetGives (set_of bytes.now) result }
+    ensures cells { HasCells result }
 {
     let file = read_document(alloc, bytes)?;
     read_file(alloc, &file)

@@ -1,14 +1,15 @@
 -- What a run has written and counted so far.
 use Rattle.std.specs.Prelude.{ℕ, ◌≡◌, ◌+◌, ◌*◌, List, ◌++◌}
 use Rattle.std.specs.List.{flat_map}
-use Rattle.rx_set.specs.System.{System}
+use Rattle.rx_seq.specs.declared.entries.Entry.{Entry}
+use Rattle.rx_set.specs.System.{System, numbers}
 use Rattle.rx_tick.specs.declared.events.Event.{Event}
 use Rattle.rx_tick.specs.declared.totals.Totals.{Totals}
 use Rattle.rx_tick.specs.Schedule.{slots}
 use Rattle.rx_tick.specs.Events.{events, misses}
 use Rattle.rx_tick.specs.Counts.{AreBelow, totals_of}
 use Rattle.rx_report.specs.Lines.{event_line, total_line}
-use Rattle.rx_report.specs.Report.{run_totals}
+use Rattle.rx_report.specs.Report.{run_totals, object_line_after, object_lines}
 
 -- the lines of some events
 abbrev pub lines_of : System → List Event → List ℕ
@@ -19,6 +20,10 @@ pub record AreCounts (system : System) (n : ℕ) (totals : Totals) : Type 0 wher
   pub totals_are : totals ≡ totals_of (slots system n) (events system n)
   pub small : AreBelow (1 + 132 * n) totals
 
--- what a set without objects writes after the events of its slots
+-- what is written after the events of the slots: the misses at the end, the objects and the totals
 abbrev pub end_lines : System → ℕ → List ℕ
-end_lines system n = lines_of system (misses system (slots system n)) ++ total_line (run_totals system n)
+end_lines system n = lines_of system (misses system (slots system n)) ++ (object_lines system n ++ total_line (run_totals system n))
+
+-- the lines of the first objects, after these entries
+abbrev pub first_objects : System → List Entry → ℕ → List ℕ
+first_objects system before count = flat_map (object_line_after system before) (numbers count)

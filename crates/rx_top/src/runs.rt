@@ -1,16 +1,20 @@
 //! Writing a run.
-ghost use Rattle.std.specs.Prelude.{◌≡◌, ◌≤◌, ◌<◌, ◌+◌, ◌*◌, ◌^◌, ◌++◌, [], length, fold, IfOk, OnOk};
-ghost use Rattle.std.specs.List.{flat_map};
+ghost use Rattle.std.specs.Prelude.{◌≡◌, ◌≤◌, ◌<◌, ◌+◌, ◌^◌, List, length, fold, IfOk, OnOk};
+ghost use Rattle.rx_set.specs.System.{parts_of};
+ghost use Rattle.rx_tick.specs.Banks.{IsBankOf};
+ghost use Rattle.rx_tick.specs.Executive.{moment};
 ghost use Rattle.rx_io.specs.Causes.{Puts};
-ghost use Rattle.rx_tick.specs.Schedule.{slots, slot_at};
+ghost use Rattle.rx_tick.specs.Schedule.{Slot, history, slots, slot_at};
 ghost use Rattle.rx_tick.specs.Events.{events, events_of, misses};
-ghost use Rattle.rx_tick.specs.Counts.{AreBelow, counted, totals_of, zeros};
-ghost use Rattle.rx_report.specs.Lines.{event_line, total_line};
-ghost use Rattle.rx_report.specs.Report.{report, run_totals, misses_told};
-ghost use Rattle.rx_top.specs.Runs.{lines_of, AreCounts, end_lines};
+ghost use Rattle.rx_tick.specs.Counts.{AreBelow, counted, zeros};
+ghost use Rattle.rx_report.specs.Lines.{total_line};
+ghost use Rattle.rx_report.specs.Report.{report, run_totals, misses_told, object_line_after};
+ghost use Rattle.rx_top.specs.Runs.{lines_of, AreCounts, end_lines, first_objects};
 
 use rx_io::{Failed, Sink, put};
-use rx_report::{Line, event_line, total_line};
+use rx_port::Bank;
+use rx_report::{Line, event_line, object_line, total_line};
+use rx_seq::State;
 use rx_set::TaskSet;
 use rx_tick::{Event, Executive, Tick, Totals};
 
@@ -63,7 +67,7 @@ fn write_slot<K: Sink>(
     requires system { executive.old.system ≡ set.now }
     requires time { executive.old.time < 1000000 }
     requires counts { AreCounts set.now executive.old.time totals.old }
-    ensures next { executive.new ≡ record { system = set.now; time = executive.old.time + 1 } }
+    ensures next { executive.new ≡ moment set.now (executive.old.time + 1) executive.new.bank }
     ensures puts { Puts (K.taken sink.old) (K.taken sink.new) (K.faults sink.old) (K.faults sink.new)
         result (lines_of set.now
         (events_of set.now (slots set.now executive.old.time) (slot_at set.now executive.old.time))) }
@@ -86,9 +90,9 @@ fn write_slots<K: Sink>(
 ) -> Result<(), Failed>
     requires faults { K.faults sink.old < 2 ^ 63 }
     requires ticks { ticks ≤ 1000000 }
-    requires start { executive.old ≡ record { system = set.now; time = 0 } }
+    requires start { executive.old ≡ moment set.now 0 executive.old.bank }
     requires zeros { totals.old ≡ zeros }
-    ensures end { OnOk result (executive.new ≡ record { system = set.now; time = ticks }) }
+    ensures end { OnOk result (executive.new ≡ moment set.now ticks executive.new.bank) }
     ensures puts { Puts (K.taken sink.old) (K.taken sink.new) (K.faults sink.old) (K.faults sink.new)
         result (lines_of set.now (events set.now ticks)) }
     ensures counts { OnOk result (AreCounts set.now ticks totals.new) }
@@ -102,9 +106,51 @@ fn write_slots<K: Sink>(
     Ok(())
 }
 
-/// Hands in the lines of the last misses and of the totals.
+/// Hands in the line of an object, after all slots.
+fn put_object<K: Sink>(
+    set: &TaskSet,
+    bank: &Bank,
+    object: u32,
+    line: &mut Line,
+    sink: &mut K,
+) -> Result<(), Failed>
+    requires faults { K.faults sink.old < 2 ^ 63 }
+    requires object { object < length set.now.objects }
+    requires parts { bank.now.layout.parts ≡ parts_of set.now }
+    ensures { (past : List Slot) → IsBankOf set.now past bank.now → Puts (K.taken sink.old) (K.taken sink.new) (K.faults sink.old) (K.faults sink.new)
+        result (object_line_after set.now (history past) object) }
+{
+    let mut state = State::new();
+    bank.state(object, &mut state);
+    object_line(set, object, bank.tag(object), &state, line);
+    put(sink, line.as_slice())
+}
+
+/// Hands in the lines of the objects, after all slots.
+fn put_objects<K: Sink>(
+    set: &TaskSet,
+    bank: &Bank,
+    line: &mut Line,
+    sink: &mut K,
+) -> Result<(), Failed>
+    requires faults { K.faults sink.old < 2 ^ 63 }
+    requires parts { bank.now.layout.parts ≡ parts_of set.now }
+    ensures { (past : List Slot) → IsBankOf set.now past bank.now → Puts (K.taken sink.old) (K.taken sink.new) (K.faults sink.old) (K.faults sink.new)
+        result (first_objects set.now (history past) (length set.now.objects)) }
+{
+    for object in 0..set.objects().len() {
+        match put_object(set, bank, object as u32, line, sink) {
+            Ok(()) => {}
+            Err(Failed) => return Err(Failed),
+        }
+    }
+    Ok(())
+}
+
+/// Hands in the lines of the last misses, of the objects and of the totals.
 fn write_end<K: Sink>(
     set: &TaskSet,
+    bank: &Bank,
     ticks: u64,
     late: &[Event],
     totals: &mut Totals,
@@ -112,6 +158,7 @@ fn write_end<K: Sink>(
     sink: &mut K,
 ) -> Result<(), Failed>
     requires faults { K.faults sink.old < 2 ^ 63 }
+    requires bank { IsBankOf set.now (slots set.now ticks) bank.now }
     requires ticks { ticks ≤ 1000000 }
     requires few { length late.now ≤ 131 }
     requires late { late.now ≡ misses set.now (slots set.now ticks) }
@@ -121,29 +168,26 @@ fn write_end<K: Sink>(
     ensures totals { OnOk result (totals.new ≡ run_totals set.now ticks) }
 {
     match put_events(set, late, totals, line, sink) {
+        Ok(()) => {}
+        Err(Failed) => return Err(Failed),
+    }
+    match put_objects(set, bank, line, sink) {
         Ok(()) => put_totals(totals, line, sink),
         Err(Failed) => Err(Failed),
     }
-}
-
-/// A set has no objects, so no line is handed in for one.
-fn no_objects(set: &TaskSet)
-    ensures { set.now.objects ≡ [] }
-{
-    let _tasks = set.tasks();
 }
 
 /// Runs an executive from its start for so many slots, hands in the report line by line, and answers how many misses
 /// it tells. It takes no memory.
 pub(crate) fn write_run<K: Sink>(
     set: &TaskSet,
-    executive: &mut Executive,
+    mut executive: Executive,
     ticks: u64,
     sink: &mut K,
 ) -> Result<u64, Failed>
     requires faults { K.faults sink.old < 2 ^ 63 }
     requires ticks { ticks ≤ 1000000 }
-    requires start { executive.old ≡ record { system = set.now; time = 0 } }
+    requires start { executive ≡ moment set.now 0 executive.bank }
     ensures puts { Puts (K.taken sink.old) (K.taken sink.new) (K.faults sink.old) (K.faults sink.new)
         result (report set.now ticks) }
     ensures misses { IfOk result (λ n. n ≡ misses_told set.now ticks) }
@@ -153,7 +197,7 @@ pub(crate) fn write_run<K: Sink>(
     let mut line = Line::new();
     match write_slots(
         set,
-        executive,
+        &mut executive,
         ticks,
         &mut tick,
         &mut totals,
@@ -164,9 +208,9 @@ pub(crate) fn write_run<K: Sink>(
         Err(Failed) => return Err(Failed),
     }
     executive.late(&mut tick);
-    no_objects(set);
     match write_end(
         set,
+        &executive.into_bank(),
         ticks,
         tick.events.as_slice(),
         &mut totals,

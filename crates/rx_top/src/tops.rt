@@ -1,5 +1,9 @@
 //! The top call.
-ghost use Rattle.std.specs.Prelude.{◌≡◌, ◌<◌, ◌≤◌, ◌^◌, map, string_bytes, Some};
+ghost use Rattle.std.specs.Prelude.{◌≡◌, ◌<◌, ◌≤◌, ◌^◌, [], map, string_bytes, Some, IfOk};
+ghost use Rattle.rx_port.specs.Seats.{no_counts};
+ghost use Rattle.rx_set.specs.System.{AreCells};
+ghost use Rattle.rx_tick.specs.Banks.{IsBankOf};
+ghost use Rattle.rx_tick.specs.Executive.{moment};
 ghost use Rattle.std.specs.Option.{ForSome};
 ghost use Rattle.rx_top.specs.Words.{command_of, IsLimited};
 ghost use Rattle.rx_top.specs.Outcome.{Outcome, Headline, Tells, ends, input_answer, run_answer, set_answer};
@@ -8,9 +12,13 @@ ghost use Rattle.rx_top.specs.Determined.{Determined, Unread};
 use crate::runs::write_run;
 use crate::status::Status;
 use crate::words::{Command, command_of};
+use arrayvec::ArrayVec;
 use rx_file::{FileFault, read_set};
 use rx_io::{Failed, ReadError, Sink, Source, put, read_all};
+use rx_port::Bank;
+use rx_seq::NoMemory;
 use rx_set::TaskSet;
+use rx_shape::Layout;
 use rx_tick::Executive;
 use std::alloc::Global;
 
@@ -21,7 +29,7 @@ const MOST_INPUT: usize = 1_048_576;
 /// tells to `sink`.
 ///
 /// `run N` reads a task file, in the form that `rx_file::read_set` says, and writes the report of its schedule: the
-/// events of the slots 0 to N - 1, the misses at time N, and the line of the totals. N is a word of 1 to 20 ASCII
+/// events of the slots 0 to N - 1, the misses at time N, a line for each object, and the line of the totals. N is a word of 1 to 20 ASCII
 /// digits, leading zeros allowed, and at most 1,000,000. All other words have no shape.
 ///
 /// - `Done` and `Adverse`: the whole report was written, and it tells no miss, or tells one.
@@ -167,18 +175,39 @@ fn refuse<K: Sink>(sink: &mut K) -> Status
     }
 }
 
-/// Runs a set.
+/// The bank of a set before its first slot: its objects with the tag 0, and a seat for each task.
+fn new_bank(alloc: Global, set: &TaskSet) -> Result<Bank, NoMemory>
+    ensures bank { IfOk result (IsBankOf set.now []) }
+    ensures counts { IfOk result (λ bank. bank.core.counts ≡ Some no_counts) }
+{
+    let mut parts = ArrayVec::new();
+    set.parts(&mut parts);
+    let layout = Layout::new(alloc, parts.as_slice(), set.tasks().len() as u32, 0)?;
+    Bank::new(alloc, layout)
+}
+
+/// The executive of a set before its first slot.
+fn new_executive<'s>(alloc: Global, set: &'s TaskSet) -> Result<Executive<'s>, NoMemory>
+    requires { AreCells set.now }
+    ensures { IfOk result (λ executive. executive ≡ moment set.now 0 executive.bank) }
+{
+    let bank = new_bank(alloc, set)?;
+    Executive::new(alloc, set, bank)
+}
+
+/// Runs a set, whose objects are cells.
 fn run_set<K: Sink>(alloc: Global, ticks: u64, set: &TaskSet, sink: &mut K) -> Status
     requires sink { K.faults sink.old < 2 ^ 63 }
     requires limits { ticks ≤ 1000000 }
+    requires cells { AreCells set.now }
     ensures { Tells (run_answer ticks set.now)
         (K.taken sink.old) (K.taken sink.new) (K.faults sink.old) (K.faults sink.new) result }
 {
-    let mut executive = match Executive::new(alloc, set) {
+    let executive = match new_executive(alloc, set) {
         Ok(executive) => executive,
         Err(_) => return Status::NoMemory,
     };
-    match write_run(set, &mut executive, ticks, sink) {
+    match write_run(set, executive, ticks, sink) {
         Ok(0) => Status::Done,
         Ok(_) => Status::Adverse,
         Err(Failed) => Status::WriteFault,
