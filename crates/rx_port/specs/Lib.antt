@@ -3,3 +3,4 @@ pub mod Lawful
 pub mod Events
 pub mod Plain
 pub mod Seats
+pub mod Rows

@@ -63,7 +63,8 @@ pub record IsBank (whole : Whole) : Type 0 where
   pub history : List Entry
   pub lawful : Lawful whole.layout whole.core.words whole.core.views history
 
--- a seat of a bank has the number that it is named by, and owns different places of each object's range
+-- a seat of a bank, none of whose seats keeps histories: it has the number that it is named by, and owns different places
+-- of each object's range
 pub record IsSeatOf (whole : Whole) (seat : ℕ) : Type 0 where
   pub there : seat < length whole.core.views
   pub plain : IsPlain whole.core

@@ -14,9 +14,9 @@ use rx_seq::Call;
 use rx_shape::Trade;
 
 /// Where an attempt makes its events: a plain bank, or a table that seats share. Each event finds the words and the
-/// seats in a state that is lawful for some history, and tells what it makes of them: one word at most, and the view of
-/// its own seat. The seat is still one of the port then, and so are all others. Events of other seats may come between
-/// two events. All objects are numbered from 0.
+/// seats in a state that is lawful for some history, and tells what it makes of them: of one word at most, and of the
+/// view of its own seat. That they stay lawful is a law (`laws::events_keep_the_law`). After an event all seats of the
+/// port are still its seats. Events of other seats may come between two events. All objects are numbered from 0.
 pub trait Port {
     /// A seat of the bank or table. It has the open attempt and the own places.
     type Seat;

@@ -1,0 +1,147 @@
+-- Worked rows: two seats add 1 to one cell, and the exchange of one of them loses to the other's.
+use Rattle.std.specs.Prelude.{ℕ, ◌≡◌, ◌==◌, if◌then◌else◌, refl, true, false, List, [], ◌∷◌, Some, None}
+use Rattle.rx_seq.specs.declared.kinds.Kind.TheVariants.{Cell}
+use Rattle.rx_seq.specs.declared.calls.Call.{Call}
+use Rattle.rx_seq.specs.declared.calls.Call.TheVariants.{Add}
+use Rattle.rx_seq.specs.declared.replies.Reply.TheVariants.{Done}
+use Rattle.rx_seq.specs.declared.entries.Entry.{Entry}
+use Rattle.rx_shape.specs.declared.plans.Pair.{Pair}
+use Rattle.rx_shape.specs.Places.{total}
+use Rattle.rx_shape.specs.Layout.{Layout, root_of}
+use Rattle.rx_shape.specs.Start.{start_word}
+use Rattle.rx_port.specs.declared.views.Known.{Known}
+use Rattle.rx_port.specs.declared.views.View.{View}
+use Rattle.rx_port.specs.declared.views.Core.{Core}
+use Rattle.rx_port.specs.Core.{tag_after, loaded, exchanged, new_attempt, begun_view, entry_for, history_after, decided_known, exchange_of, traded_own, decided_view}
+use Rattle.rx_port.specs.Lawful.{joined_in}
+use Rattle.rx_port.specs.Seats.{newcomer, seated, no_counts}
+use Rattle.rx_port.specs.Plain.{view_at}
+
+-- one cell and two seats
+abbrev pub small : Layout
+small = record { parts = record { kind = Cell; cap = 1 } ∷ []; seats = 2; first = 0 }
+
+abbrev pub add_one : Call
+add_one = Add 1
+
+-- a seat begins to add 1
+abbrev begins : List Entry → Core → ℕ → Core
+begins history core seat = loaded core seat (begun_view history (view_at core seat) 0 add_one (root_of core.words 0))
+
+-- the entry of its call after these
+abbrev entry_of : List Entry → ℕ → Entry
+entry_of history seat = entry_for small history seat 0 add_one
+
+-- it decides, having begun at the expected root, for a new one
+abbrev decides : List Entry → Core → ℕ → ℕ → ℕ → Core
+decides history core seat expected new =
+    let found = root_of core.words 0 in
+    let won = found == expected in
+    exchanged core 0 (if won then new else found) seat (decided_view won history (entry_of history seat) (view_at core seat) (new_attempt 0 add_one expected) found [])
+
+-- the start
+abbrev at_start : Core
+at_start = record { words = start_word small 0 ∷ start_word small 1 ∷ []; views = seated small 2; counts = Some no_counts }
+
+pub words_at_start : at_start.words ≡ 0 ∷ 0 ∷ []
+words_at_start = refl
+
+pub seat_at_start : view_at at_start 1 ≡ record { number = 1; next = None; live = true; attempt = None; own = [] ∷ []; joined = []; known = None }
+seat_at_start = refl
+
+-- seat 0 begins, then seat 1 does
+abbrev both_begun : Core
+both_begun = begins [] (begins [] at_start 0) 1
+
+pub begun_words : both_begun.words ≡ 0 ∷ 0 ∷ []
+begun_words = refl
+
+pub begun_open : (view_at both_begun 0).attempt ≡ Some (record { object = 0; call = Add 1; expected = 0; reads = []; writes = [] })
+begun_open = refl
+
+-- seat 1 decides for the tag 1 and the value 1, and finds the root that it expects
+abbrev one_won : Core
+one_won = decides [] both_begun 1 0 16777217
+
+abbrev after_one : List Entry
+after_one = history_after (root_of both_begun.words 0 == 0) (entry_of [] 1) []
+
+pub won_words : one_won.words ≡ 0 ∷ 16777217 ∷ []
+won_words = refl
+
+pub won_closed : (view_at one_won 1).attempt ≡ None
+won_closed = refl
+
+pub won_other : view_at one_won 0 ≡ view_at both_begun 0
+won_other = refl
+
+pub won_history : after_one ≡ record { caller = 1; index = 1; object = 0; call = Add 1; reply = Done 1; tag = 1 } ∷ []
+won_history = refl
+
+pub won_tag : tag_after small after_one 0 ≡ 1
+won_tag = refl
+
+-- seat 0 decides for the same root, and finds 16777217 and not 0
+abbrev one_lost : Core
+one_lost = decides after_one one_won 0 0 16777217
+
+pub lost_words : one_lost.words ≡ 0 ∷ 16777217 ∷ []
+lost_words = refl
+
+pub lost_closed : (view_at one_lost 0).attempt ≡ None
+lost_closed = refl
+
+pub lost_history : history_after (root_of one_won.words 0 == 0) (entry_of after_one 0) after_one ≡ after_one
+lost_history = refl
+
+-- seat 0 begins again, and decides for the tag 2 and the value 2
+abbrev again : Core
+again = begins after_one one_lost 0
+
+abbrev two_won : Core
+two_won = decides after_one again 0 16777217 33554434
+
+abbrev after_two : List Entry
+after_two = history_after (root_of again.words 0 == 16777217) (entry_of after_one 0) after_one
+
+pub again_words : two_won.words ≡ 0 ∷ 33554434 ∷ []
+again_words = refl
+
+pub again_history : after_two
+    ≡ record { caller = 0; index = 1; object = 0; call = Add 1; reply = Done 2; tag = 2 } ∷ record { caller = 1; index = 1; object = 0; call = Add 1; reply = Done 1; tag = 1 } ∷ []
+again_history = refl
+
+pub again_counts : two_won.counts ≡ Some (record { loads = 3; stores = 0; exchanges = 3 })
+again_counts = refl
+
+-- a seat that keeps histories sees the others' entries, and has its own
+abbrev knows_nothing : Known
+knows_nothing = record { seen = []; mine = []; begins = 1; exchanges = 0; latest = None }
+
+pub loser_knows : decided_known false after_one (entry_of after_one 0) (exchange_of (new_attempt 0 add_one 0) 16777217) knows_nothing
+    ≡ record { seen = after_one; mine = []; begins = 1; exchanges = 1; latest = Some (record { object = 0; expected = 0; found = 16777217 }) }
+loser_knows = refl
+
+pub winner_knows : decided_known true [] (entry_of [] 1) (exchange_of (new_attempt 0 add_one 0) 0) knows_nothing
+    ≡ record { seen = after_one; mine = after_one; begins = 1; exchanges = 1; latest = Some (record { object = 0; expected = 0; found = 0 }) }
+winner_knows = refl
+
+-- a winner owns the places that were live, a loser those that it had
+abbrev both_places : List Pair
+both_places = record { own = 0; place = 4 } ∷ record { own = 1; place = 5 } ∷ []
+
+pub winner_owns : traded_own true ((6 ∷ 7 ∷ []) ∷ []) 0 both_places ≡ (4 ∷ 5 ∷ []) ∷ []
+winner_owns = refl
+
+pub loser_owns : traded_own false ((6 ∷ 7 ∷ []) ∷ []) 0 both_places ≡ (6 ∷ 7 ∷ []) ∷ []
+loser_owns = refl
+
+-- seat 1 was joined into seat 0, which keeps it
+abbrev joined_away : View
+joined_away = record { number = 1; next = None; live = false; attempt = None; own = []; joined = []; known = None }
+
+abbrev keeper : View
+keeper = record (newcomer small None 0 None) { joined = record { number = 1; seen = []; mine = []; own = [] ∷ [] } ∷ [] }
+
+pub kept_once : total (joined_in 1) (keeper ∷ joined_away ∷ []) ≡ 1
+kept_once = refl
