@@ -2,3 +2,4 @@ pub mod Counting
 pub mod Lines
 pub mod Outcomes
 pub mod Writes
+pub mod NewBanks

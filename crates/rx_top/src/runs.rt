@@ -134,10 +134,11 @@ fn put_objects<K: Sink>(
     sink: &mut K,
 ) -> Result<(), Failed>
     requires faults { K.faults sink.old < 2 ^ 63 }
-    requires parts { bank.now.layout.parts ≡ parts_of set.now }
+    requires bank { (past : List Slot) × IsBankOf set.now past bank.now }
     ensures { (past : List Slot) → IsBankOf set.now past bank.now → Puts (K.taken sink.old) (K.taken sink.new) (K.faults sink.old) (K.faults sink.new)
         result (first_objects set.now (history past) (length set.now.objects)) }
 {
+    let _tasks = set.tasks();
     for object in 0..set.objects().len() {
         match put_object(set, bank, object as u32, line, sink) {
             Ok(()) => {}

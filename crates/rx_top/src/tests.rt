@@ -16,6 +16,16 @@ const OVERLOAD: &str = "task = [{name=\"x\", period=2, body=[\"work 3\"]}]\n";
 const LATE: &str =
     "0 release x 1\n2 miss x 1\n2 release x 2\n2 finish x 1\n4 miss x 2\n4 release x 3\n5 finish x 2\n6 miss x 3\ntotal ticks 6 idle 0 released 3 finished 2 replies 0 retries 0 preempted 0 missed 3\n";
 
+// One task preempts another between the load and the exchange of its operation on a cell.
+const SHARED: &str =
+    "[[object]]\nname = \"c\"\nkind = \"cell\"\n[[task]]\nname = \"a\"\nperiod = 10\noffset = 2\nbody = [\"add c 1\"]\n[[task]]\nname = \"b\"\nperiod = 20\nbody = [\"work 1\", \"add c 5\", \"work 1\"]\n";
+
+const RETRIED: &str =
+    "0 release b 1\n2 release a 1\n2 preempt b 1 by a 1\n3 reply a 1 1 add c 1 -> done 1 tag 1\n3 finish a 1\n4 retry b 1 2 c tag 0 now 1\n6 reply b 1 2 add c 5 -> done 6 tag 2\n7 finish b 1\nobject c cell tag 2 state 6\ntotal ticks 10 idle 2 released 2 finished 2 replies 2 retries 1 preempted 1 missed 0\n";
+
+const UNUSED: &str =
+    "object c cell tag 0 state 0\ntotal ticks 0 idle 0 released 0 finished 0 replies 0 retries 0 preempted 0 missed 0\n";
+
 fn split(alloc: Global, text: &str) -> Result<Vec<String>, AllocError> {
     let mut words = Vec::new(alloc);
     for word in text.split(' ') {
@@ -33,6 +43,8 @@ fn answers_words_and_input(rt: HostRuntime) -> Result<(), Fail> {
         ("run 10", FILE, 4096, 0, 0, Status::Done, REPORT),
         ("run 10", FILE, 1, 0, 0, Status::Done, REPORT),
         ("run 6", OVERLOAD, 4096, 0, 0, Status::Adverse, LATE),
+        ("run 10", SHARED, 4096, 0, 0, Status::Done, RETRIED),
+        ("run 0", SHARED, 4096, 0, 0, Status::Done, UNUSED),
         ("run 10", "", 4096, 0, 0, Status::BadSet, "set\n"),
         ("run 10", FILE, 4096, 1, 0, Status::ReadFault, ""),
         ("run 10", FILE, 4096, 0, 1, Status::WriteFault, ""),
