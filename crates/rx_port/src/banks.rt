@@ -45,7 +45,8 @@ impl Model for Bank {
 
 impl Bank {
     /// The bank of a layout: the words of the start, and each seat with its places of the start and no open attempt. All
-    /// counts are 0. `NoMemory` is the one refusal, and then the layout is dropped.
+    /// counts are 0. `NoMemory` is the one refusal, and then the layout is dropped. It takes time that grows with the
+    /// number of words times the number of objects.
     pub fn new(alloc: Global, layout: Layout) -> Result<Bank, NoMemory>
         ensures layout { IfOk result (λ bank. bank.layout ≡ layout) }
         ensures counts { IfOk result (λ bank. bank.core.counts ≡ Some no_counts) }
@@ -65,7 +66,7 @@ impl Bank {
         })
     }
 
-    /// What its words stand for. Each number below that of its seats names a seat of the bank.
+    /// What its words stand for. Each number below that of its seats names a seat of the bank. It takes constant time.
     pub fn layout(&self) -> &Layout
         ensures layout { result.now ≡ self.now.layout }
         ensures limits { IsLayout self.now.layout }
@@ -76,14 +77,14 @@ impl Bank {
         &self.layout
     }
 
-    /// How many events were made.
+    /// How many events were made. It takes constant time.
     pub fn counts(&self) -> Counts
         ensures { self.now.core.counts ≡ Some result }
     {
         self.counts
     }
 
-    /// The version tag of an object: the first tag and the number of entries on it. It takes constant time.
+    /// The version tag of an object that is there: the first tag and the number of entries on it. It takes constant time.
     pub fn tag(&self, object: u32) -> u64
         requires { object < length self.now.layout.parts }
         ensures root { result ≡ tag_in (root_of self.now.core.words object) }
@@ -92,7 +93,7 @@ impl Bank {
         tag_of(self.words[object as usize + 1])
     }
 
-    /// Makes the state the object's, whatever it was. It takes time that grows with the length of the state.
+    /// Makes the state that of an object that is there, whatever it was. It takes time that grows with the length of the state.
     pub fn state(&self, object: u32, state: &mut State)
         requires { object < length self.now.layout.parts }
         ensures root { state.new.items ≡ decoded (home self.now.layout object) (root_of self.now.core.words object) self.now.core.words }

@@ -1,6 +1,6 @@
 //! The laws of the events, over plain data. Each function does nothing: its contract is the law.
 ghost use Rattle.rx_port.specs.Core.{begun_view, decided_view, entry_for, history_after, own_of, read_view, tag_after, written_view};
-ghost use Rattle.rx_port.specs.Events.{Begun, Decided, DidRead, DidWrite, IsDecision};
+ghost use Rattle.rx_port.specs.Events.{IsHopeless, Begun, Decided, DidRead, DidWrite, IsDecision};
 ghost use Rattle.rx_port.specs.Lawful.{IsAttempt, Lawful};
 ghost use Rattle.rx_port.specs.Plain.{IsPlain, Moves, view_at};
 ghost use Rattle.rx_port.specs.declared.views.Attempt.{Attempt};
@@ -15,7 +15,7 @@ ghost use Rattle.rx_shape.specs.Layout.{Layout, home, root_of};
 ghost use Rattle.rx_shape.specs.Versions.{NotWritten};
 ghost use Rattle.rx_shape.specs.Words.{tag_of};
 ghost use Rattle.rx_shape.specs.declared.plans.Pair.{Pair};
-ghost use Rattle.std.specs.Prelude.{ℕ, ◌≡◌, ◌↔◌, ◌<◌, ◌+◌, ◌==◌, if◌then◌else◌, true, List, length, slice_index, slice_set, Some};
+ghost use Rattle.std.specs.Prelude.{ℕ, ◌≡◌, ◌≢◌, ◌↔◌, ◌<◌, ◌+◌, ◌==◌, if◌then◌else◌, true, List, length, slice_index, slice_set, Some};
 ghost use lib.ListN.{get_elem?};
 ghost use mathlib.Core.Option.{some};
 
@@ -39,10 +39,12 @@ pub fn bank_stays_lawful()
 {}
 
 /// The tag of a root is the first tag and the number of entries on the object. So an open attempt still finds the root
-/// that it expects exactly where no entry came on its object since, and that root then stands for the replay.
+/// that it expects exactly where no entry came on its object since, and that root then stands for the replay. Where no
+/// version with the expected root has the words that the attempt read, that root is no longer there.
 pub fn attempts_lose_to_entries()
     ensures tag { (layout : Layout) (core : Core) (history : List Entry) (object : ℕ) → Lawful layout core.words core.views history → object < length layout.parts → tag_of (root_of core.words object) ≡ tag_after layout history object }
     ensures attempt { (layout : Layout) (core : Core) (history : List Entry) (seat : ℕ) (attempt : Attempt) → Lawful layout core.words core.views history → (view_at core seat).attempt ≡ Some attempt → IsAttempt layout core.words history (view_at core seat).own attempt }
     ensures wins { (layout : Layout) (core : Core) (history : List Entry) (seat : ℕ) (attempt : Attempt) → Lawful layout core.words core.views history → (view_at core seat).attempt ≡ Some attempt → (attempt.expected ≡ root_of core.words attempt.object) ↔ (tag_of attempt.expected ≡ tag_after layout history attempt.object) }
     ensures state { (layout : Layout) (core : Core) (history : List Entry) (seat : ℕ) (attempt : Attempt) → Lawful layout core.words core.views history → (view_at core seat).attempt ≡ Some attempt → attempt.expected ≡ root_of core.words attempt.object → decoded (home layout attempt.object) attempt.expected core.words ≡ replay layout.parts attempt.object history }
+    ensures hopeless { (layout : Layout) (core : Core) (history : List Entry) (seat : ℕ) (attempt : Attempt) (pairs : List Pair) → Lawful layout core.words core.views history → (view_at core seat).attempt ≡ Some attempt → IsHopeless layout attempt pairs → attempt.expected ≢ root_of core.words attempt.object }
 {}

@@ -13,10 +13,13 @@ ghost use Rattle.std.specs.Prelude.{ℕ, ◌≡◌, ◌+◌, ◌<◌, true, Some
 use rx_seq::Call;
 use rx_shape::Trade;
 
-/// Where an attempt makes its events: a plain bank, or a table that seats share. Each event finds the words and the
+/// Where an attempt makes its events: a plain bank, or a table that seats share. An attempt loads the object's root and
+/// the places that it names, writes a private copy and swings the root by one conditional store (Herlihy, 1993; here a
+/// compare-and-exchange of a root that carries a version tag). Each event finds the words and the
 /// seats in a state that is lawful for some history, and tells what it makes of them: of one word at most, and of the
 /// view of its own seat. That they stay lawful is a law (`laws::events_keep_the_law`). After an event all seats of the
-/// port are still its seats. Events of other seats may come between two events. All objects are numbered from 0.
+/// port are still its seats. Events of other seats may come between two events. All objects are numbered from 0. Each
+/// event wants a port that has room for one more, which each implementation says.
 pub trait Port {
     /// A seat of the bank or table. It has the open attempt and the own places.
     type Seat;

@@ -56,8 +56,9 @@ fn first_states(alloc: Global, set: &TaskSet) -> Result<Vec<State>, NoMemory>
     Ok(states)
 }
 
-/// One simulated processor, and a set of tasks that it runs, slot by slot. It keeps one started job per task, and
-/// counts of released and finished jobs.
+/// One simulated processor, and a set of tasks that it runs, slot by slot, with the objects that they share. It keeps one
+/// started job per task, and counts of released and finished jobs. An operation is a retry loop: its attempt fails only
+/// where its job was preempted during it (Anderson, Ramamurthy and Jeffay, 1997).
 #[derive(Drop)]
 pub struct Executive<'s> {
     set: &'s TaskSet,
@@ -104,7 +105,7 @@ impl<'s> Executive<'s> {
         })
     }
 
-    /// The number of slots so far.
+    /// The number of slots so far. Its cost is constant.
     pub fn now(&self) -> u64
         ensures { result ≡ self.now.time }
     {
@@ -113,7 +114,7 @@ impl<'s> Executive<'s> {
 
     /// Makes the next slot, and tells it and its events: misses and releases in file order of the tasks, preemption,
     /// reply or retry, finish. The first tick of an attempt makes one load on the bank and the last one exchange; a slot
-    /// that belongs to no attempt touches nothing. It takes no memory. Where no job is released or finished and none can
+    /// that belongs to no attempt touches nothing. It wants fewer than 2^40 slots so far, and takes no memory. Where no job is released or finished and none can
     /// be missed, its cost is constant, and else it grows with the number of tasks.
     pub fn tick(&mut self, out: &mut Tick)
         requires { self.old.time < 2 ^ 40 }
@@ -151,7 +152,7 @@ impl<'s> Executive<'s> {
     }
 
     /// Gives the bank back, which has the set's objects and a seat for each task and stands for the history of the
-    /// schedule: the tag of each object is the number of its entries, and its state is their replay.
+    /// schedule: the tag of each object is the number of its entries, and its state is their replay. Its cost is constant.
     pub fn into_bank(self) -> Bank
         ensures bank { result ≡ self.entry.bank }
         ensures history { IsBankOf self.entry.system (slots self.entry.system self.entry.time) result }

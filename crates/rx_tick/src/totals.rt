@@ -25,7 +25,7 @@ impl Totals {
         Totals::default()
     }
 
-    /// Raises the one number of the event's kind.
+    /// Raises the one number of the event's kind. Each number is below 2^63 before.
     pub fn count(&mut self, event: &Event)
         requires { AreBelow (2 ^ 63) self.old }
         ensures { self.new ≡ counted self.old event.now }
@@ -40,7 +40,7 @@ impl Totals {
         }
     }
 
-    /// Raises the number of slots, and that of idle ones where the slot is not busy.
+    /// Raises the number of slots, and that of idle ones where the slot is not busy. Each number is below 2^63 before.
     pub fn slot(&mut self, busy: bool)
         requires { AreBelow (2 ^ 63) self.old }
         ensures { self.new ≡ with_slot self.old busy }

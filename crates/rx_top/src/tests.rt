@@ -26,6 +26,27 @@ const RETRIED: &str =
 const UNUSED: &str =
     "object c cell tag 0 state 0\ntotal ticks 0 idle 0 released 0 finished 0 replies 0 retries 0 preempted 0 missed 0\n";
 
+// Two releases at one tick spoil one attempt, which is lost once.
+const TWO: &str =
+    "object = [{name=\"c\", kind=\"cell\"}]\ntask = [{name=\"hi1\", period=10, offset=1, body=[\"add c 1\"]}, {name=\"hi2\", period=20, offset=1, body=[\"add c 1\"]}, {name=\"lo\", period=40, body=[\"add c 1\"]}]\n";
+
+const TWICE: &str =
+    "0 release lo 1\n1 release hi1 1\n1 release hi2 1\n1 preempt lo 1 by hi1 1\n2 reply hi1 1 1 add c 1 -> done 1 tag 1\n2 finish hi1 1\n4 reply hi2 1 1 add c 1 -> done 2 tag 2\n4 finish hi2 1\n5 retry lo 1 1 c tag 0 now 2\n7 reply lo 1 1 add c 1 -> done 3 tag 3\n7 finish lo 1\nobject c cell tag 3 state 3\ntotal ticks 8 idle 0 released 3 finished 3 replies 3 retries 1 preempted 1 missed 0\n";
+
+// The task that preempts uses another object, so the preempted attempt wins.
+const APART: &str =
+    "object = [{name=\"c\", kind=\"cell\"}, {name=\"e\", kind=\"cell\"}]\ntask = [{name=\"hi\", period=10, offset=1, body=[\"add e 1\"]}, {name=\"lo\", period=20, body=[\"add c 1\"]}]\n";
+
+const WON: &str =
+    "0 release lo 1\n1 release hi 1\n1 preempt lo 1 by hi 1\n2 reply hi 1 1 add e 1 -> done 1 tag 1\n2 finish hi 1\n3 reply lo 1 1 add c 1 -> done 1 tag 1\n3 finish lo 1\nobject c cell tag 1 state 1\nobject e cell tag 1 state 1\ntotal ticks 5 idle 1 released 2 finished 2 replies 2 retries 0 preempted 1 missed 0\n";
+
+// Each call on a cell, over the top and with another value among them.
+const CALLS: &str =
+    "object = [{name=\"c\", kind=\"cell\"}]\ntask = [{name=\"t\", period=100, body=[\"set c 16777215\", \"add c 1\", \"swap c 16777215 0\", \"swap c 5 6\"]}]\n";
+
+const REPLIES: &str =
+    "0 release t 1\n1 reply t 1 1 set c 16777215 -> done 16777215 tag 1\n3 reply t 1 2 add c 1 -> over tag 2\n5 reply t 1 3 swap c 16777215 0 -> done 0 tag 3\n7 reply t 1 4 swap c 5 6 -> differs 0 tag 4\n7 finish t 1\nobject c cell tag 4 state 0\ntotal ticks 8 idle 0 released 1 finished 1 replies 4 retries 0 preempted 0 missed 0\n";
+
 fn split(alloc: Global, text: &str) -> Result<Vec<String>, AllocError> {
     let mut words = Vec::new(alloc);
     for word in text.split(' ') {
@@ -45,6 +66,9 @@ fn answers_words_and_input(rt: HostRuntime) -> Result<(), Fail> {
         ("run 6", OVERLOAD, 4096, 0, 0, Status::Adverse, LATE),
         ("run 10", SHARED, 4096, 0, 0, Status::Done, RETRIED),
         ("run 0", SHARED, 4096, 0, 0, Status::Done, UNUSED),
+        ("run 8", TWO, 4096, 0, 0, Status::Done, TWICE),
+        ("run 5", APART, 4096, 0, 0, Status::Done, WON),
+        ("run 8", CALLS, 4096, 0, 0, Status::Done, REPLIES),
         ("run 10", "", 4096, 0, 0, Status::BadSet, "set\n"),
         ("run 10", FILE, 4096, 1, 0, Status::ReadFault, ""),
         ("run 10", FILE, 4096, 0, 1, Status::WriteFault, ""),

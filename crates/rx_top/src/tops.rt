@@ -189,7 +189,8 @@ fn new_bank(alloc: Global, set: &TaskSet) -> Result<Bank, NoMemory>
 /// The executive of a set before its first slot.
 fn new_executive<'s>(alloc: Global, set: &'s TaskSet) -> Result<Executive<'s>, NoMemory>
     requires { AreCells set.now }
-    ensures { IfOk result (λ executive. executive ≡ moment set.now 0 executive.bank) }
+    ensures start { IfOk result (λ executive. executive ≡ moment set.now 0 executive.bank) }
+    ensures counts { IfOk result (λ executive. executive.bank.core.counts ≡ Some no_counts) }
 {
     let bank = new_bank(alloc, set)?;
     Executive::new(alloc, set, bank)
