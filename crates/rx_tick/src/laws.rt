@@ -80,6 +80,15 @@ pub fn attempts_take_their_cost()
         (outcome ≡ None) ↔ IsSpoiled system object (so_far system job n).first n }
 {}
 
+/// An entry that is made in a slot is the operation that its job has in hand: its caller is the job's task, and its object
+/// and its call are those of the job's item.
+pub fn entries_are_operations()
+    ensures caller { (system : System) (n object : ℕ) (job : Job) (entry : Entry) → slot_at system n ≡ Decide job object (Some entry) → entry.caller ≡ job.task }
+    ensures object { (system : System) (n object : ℕ) (job : Job) (entry : Entry) → slot_at system n ≡ Decide job object (Some entry) → entry.object ≡ object }
+    ensures item { (system : System) (n object : ℕ) (job : Job) (entry : Entry) → slot_at system n ≡ Decide job object (Some entry) →
+        item_at system job (so_far system job n).complete ≡ Some (Op object entry.call) }
+{}
+
 /// The tag of an object is the number of its loud entries: in all, and before a slot. The history is that of the table:
 /// each entry has the reply that its call makes on the replay of the entries before it, the number of loud entries of
 /// its object up to itself as its tag, and the number of its caller's entries up to itself as its index.
