@@ -1,6 +1,8 @@
 -- The words of the laws, on worked schedules.
 use Rattle.std.specs.Prelude.{◌≡◌, ◌+◌, refl, true, false, [], ◌∷◌, Some, None}
 use Rattle.rx_seq.specs.History.{tag_of}
+use Rattle.rx_seq.specs.declared.calls.Call.TheVariants.{Add}
+use Rattle.rx_seq.specs.declared.replies.Reply.TheVariants.{Done}
 use Rattle.rx_tick.specs.Schedule.{Idle, Busy, Decide, history, wins_on, slots, slot_at}
 use Rattle.rx_tick.specs.Events.{wins, wins_below}
 use Rattle.rx_tick.specs.Laws.{who, so_far, finished_before, slots_of, asked_up_to, lost_ticks}
@@ -52,6 +54,12 @@ retried_asked = refl
 
 pub retried_lost : lost_ticks retried (job 1 1) (slots retried 10) ≡ 2
 retried_lost = refl
+
+-- the whole history, newest first: b's second attempt won, and before it a's
+pub retried_history : history (slots retried 10) ≡
+    record { caller = 1; index = 1; object = 0; call = Add 5; reply = Done 6; tag = 2 }
+    ∷ record { caller = 0; index = 1; object = 0; call = Add 1; reply = Done 1; tag = 1 } ∷ []
+retried_history = refl
 
 -- two entries, of which the first was there before slot 4
 pub retried_tag : tag_of 0 (history (slots retried 10)) ≡ 2
