@@ -122,6 +122,32 @@ decision_is system n job object outcome e = by_own (slot_at system n) e (own_at 
           spoiled = λ h. absurd (false≢true (sym calm ∙ ap (λ (o : ℕ). won_after o (so_far system job n).first (slots system n)) object_is ∙ h));
         }
 
+-- an entry is the one that its job's item makes after those before it
+pub record IsMade (system : System) (n : ℕ) (job : Job) (object : ℕ) (entry : Entry) : Type 0 where
+  pub caller : entry.caller ≡ job.task
+  pub object_is : entry.object ≡ object
+  pub asks : item_at system job (so_far system job n).complete ≡ Some (Op object entry.call)
+
+no_entry : (mine job : Job) (object other : ℕ) (entry : Entry) (slot : Slot) → slot ≡ Decide job object (Some entry) → slot ≡ Decide mine other None → ⊥
+no_entry mine job object other entry slot e f = cc
+
+pub entry_made : (system : System) (n : ℕ) (job : Job) (object : ℕ) (entry : Entry) → slot_at system n ≡ Decide job object (Some entry) → IsMade system n job object entry
+entry_made system n job object entry e = by_own (slot_at system n) e (own_at system n job (ap job_in e))
+  where
+    by_own : (slot : Slot) → slot ≡ Decide job object (Some entry) → IsOwn system (slots system n) job slot → IsMade system n job object entry
+    by_own slot e (Goes is some next) = absurd (not_busy job job object (Some entry) slot e is)
+    by_own slot e (Works is all next) = absurd (not_busy job job object (Some entry) slot e is)
+    by_own slot e (Loses other call is item all spoiled next) = absurd (no_entry job job object other entry slot e is)
+    by_own slot e (Wins other call is item all calm next) =
+        let made : Entry = entry_after (parts_of system) (history (slots system n)) job.task other call in
+        let object_is : other ≡ object = cc in
+        let entry_is : made ≡ entry = cc in
+        record {
+          caller = ap (λ (x : Entry). x.caller) (sym entry_is);
+          object_is = ap (λ (x : Entry). x.object) (sym entry_is) ∙ object_is;
+          asks = item ∙ ap (λ (o : ℕ). Some (Op o call)) object_is ∙ ap (λ (x : Entry). Some (Op object x.call)) entry_is;
+        }
+
 -- an attempt that is decided was in hand
 pub decided_begun : (system : System) (n : ℕ) (job : Job) (object : ℕ) (outcome : Option Entry) → slot_at system n ≡ Decide job object outcome → IsBegun system job n (so_far system job n)
 decided_begun system n job object outcome e = held system job n (omega (arith, (decision_is system n job object outcome e).made, cost_some system object))

@@ -13,3 +13,4 @@ pub mod Shares
 pub mod Attempts
 pub mod Entries
 pub mod Joins
+pub mod Decisions

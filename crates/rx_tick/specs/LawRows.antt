@@ -1,9 +1,11 @@
 -- The words of the laws, on worked schedules.
 use Rattle.std.specs.Prelude.{◌≡◌, ◌+◌, refl, true, false, [], ◌∷◌, Some, None}
 use Rattle.rx_seq.specs.History.{tag_of}
+use Rattle.rx_seq.specs.declared.calls.Call.TheVariants.{Add}
+use Rattle.rx_seq.specs.declared.replies.Reply.TheVariants.{Done}
 use Rattle.rx_tick.specs.Schedule.{Idle, Busy, Decide, history, wins_on, slots, slot_at}
 use Rattle.rx_tick.specs.Events.{wins, wins_below}
-use Rattle.rx_tick.specs.Laws.{who, so_far, finished_before, slots_of, asked_up_to, lost_ticks}
+use Rattle.rx_tick.specs.Laws.{who, so_far, finished_before, IsReply, IsRetry, slots_of, asked_up_to, lost_ticks}
 use Rattle.rx_tick.specs.Rows.{job, work_alone, retried}
 
 -- b has slots 0, 2 and 3, and a preempts it in slot 1
@@ -39,6 +41,22 @@ lost_begins = refl
 pub lost_to : wins_on 0 (slot_at retried 3) ≡ true
 lost_to = refl
 
+-- it expected no entry of the object, and found one
+pub lost_retry : IsRetry retried 4 1 (job 1 1) 2 0 1
+lost_retry = record { object = 0; loses = refl; begins = refl; number = refl; expects = refl; finds = refl }
+
+-- b's next attempt, from slot 5 to slot 6, wins
+pub won_reply : IsReply retried 6 5 (job 1 1) 2 (Done 6) 2
+won_reply = record {
+  object = 0;
+  entry = record { caller = 1; index = 1; object = 0; call = Add 5; reply = Done 6; tag = 2 };
+  wins = refl;
+  begins = refl;
+  number = refl;
+  replies = refl;
+  tags = refl;
+}
+
 -- two slots of the job from its first to its last
 pub lost_cost : slots_of (job 1 1) (slots retried 5) ≡ slots_of (job 1 1) (slots retried 1) + 2
 lost_cost = refl
@@ -52,6 +70,12 @@ retried_asked = refl
 
 pub retried_lost : lost_ticks retried (job 1 1) (slots retried 10) ≡ 2
 retried_lost = refl
+
+-- the whole history, newest first: b's second attempt won, and before it a's
+pub retried_history : history (slots retried 10) ≡
+    record { caller = 1; index = 1; object = 0; call = Add 5; reply = Done 6; tag = 2 }
+    ∷ record { caller = 0; index = 1; object = 0; call = Add 1; reply = Done 1; tag = 1 } ∷ []
+retried_history = refl
 
 -- two entries, of which the first was there before slot 4
 pub retried_tag : tag_of 0 (history (slots retried 10)) ≡ 2

@@ -1,11 +1,14 @@
 -- The words of the laws of the schedule.
 use Rattle.std.specs.Prelude.{ℕ, zero, suc, ◌+◌, ◌≡◌, ◌≢◌, ◌≤◌, ◌<◌, Bool, true, false, if◌then◌else◌, List, [], ◌∷◌, Option, Some, None}
+use Rattle.rx_seq.specs.History.{tag_of}
+use Rattle.rx_seq.specs.declared.entries.Entry.{Entry}
+use Rattle.rx_seq.specs.declared.replies.Reply.{Reply}
 use Rattle.rx_set.specs.declared.items.Item.{Item}
 use Rattle.rx_set.specs.declared.items.Item.TheVariants.{Work, Op}
 use Rattle.rx_set.specs.declared.jobs.Job.{Job}
 use Rattle.rx_set.specs.System.{System, item_at, attempt_cost, release, key, is_below}
 use Rattle.rx_set.specs.Valid.{IsJobOf}
-use Rattle.rx_tick.specs.Schedule.{Slot, Idle, Busy, Decide, Progress, progress, is_finished, job_in, same, slots, slot_at, wins_on}
+use Rattle.rx_tick.specs.Schedule.{Slot, Idle, Busy, Decide, Progress, progress, is_finished, job_in, same, history, slots, slot_at, wins_on}
 
 -- the job that has slot n
 abbrev pub who : System → ℕ → Option Job
@@ -37,6 +40,25 @@ pub record IsPreemption (system : System) (at : ℕ) (job by : Job) : Type 0 whe
   pub unfinished : finished_before system job at ≡ false
   pub has : who system at ≡ Some by
   pub other : job ≢ by
+
+-- an attempt wins in a slot: its first slot, its job's item, from 1, and the reply and the tag of its entry
+pub record IsReply (system : System) (at first : ℕ) (job : Job) (item : ℕ) (reply : Reply) (tag : ℕ) : Type 0 where
+  pub object : ℕ
+  pub entry : Entry
+  pub wins : slot_at system at ≡ Decide job object (Some entry)
+  pub begins : first ≡ (so_far system job at).first
+  pub number : item ≡ (so_far system job at).complete + 1
+  pub replies : reply ≡ entry.reply
+  pub tags : tag ≡ entry.tag
+
+-- an attempt is lost in a slot: its first slot, its job's item, from 1, and its object's tag at its first slot and now
+pub record IsRetry (system : System) (at first : ℕ) (job : Job) (item expected found : ℕ) : Type 0 where
+  pub object : ℕ
+  pub loses : slot_at system at ≡ Decide job object None
+  pub begins : first ≡ (so_far system job at).first
+  pub number : item ≡ (so_far system job at).complete + 1
+  pub expects : expected ≡ tag_of object (history (slots system first))
+  pub finds : found ≡ tag_of object (history (slots system at))
 
 -- how many of the slots are the job's
 abbrev pub owned : Job → Option Job → ℕ

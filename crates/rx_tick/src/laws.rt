@@ -3,15 +3,16 @@ ghost use Rattle.rx_seq.specs.History.{calls_of, part_at, replay, tag_of};
 ghost use Rattle.rx_seq.specs.Table.{effect};
 ghost use Rattle.rx_seq.specs.declared.calls.Call.{Call};
 ghost use Rattle.rx_seq.specs.declared.entries.Entry.{Entry};
+ghost use Rattle.rx_seq.specs.declared.replies.Reply.{Reply as Answer};
 ghost use Rattle.rx_set.specs.System.{System, attempt_cost, is_below, item_at, key, parts_of, release, task_of};
 ghost use Rattle.rx_set.specs.Valid.{IsJobOf, IsValid, IsWork};
 ghost use Rattle.rx_set.specs.declared.items.Item.{Item};
 ghost use Rattle.rx_set.specs.declared.items.Item.TheVariants.{Op};
 ghost use Rattle.rx_set.specs.declared.jobs.Job.{Job};
 ghost use Rattle.rx_tick.specs.Events.{events, wins, wins_below};
-ghost use Rattle.rx_tick.specs.Laws.{IsLeastAt, IsPendingAt, IsPreemption, IsSpoiled, asked_by, asked_up_to, finished_before, lost_ticks, slots_of, so_far, who};
+ghost use Rattle.rx_tick.specs.Laws.{IsLeastAt, IsPendingAt, IsPreemption, IsReply, IsRetry, IsSpoiled, asked_by, asked_up_to, finished_before, lost_ticks, slots_of, so_far, who};
 ghost use Rattle.rx_tick.specs.Schedule.{Busy, Decide, Idle, history, slot_at, slots};
-ghost use Rattle.rx_tick.specs.declared.events.Event.TheVariants.{Preempt};
+ghost use Rattle.rx_tick.specs.declared.events.Event.TheVariants.{Preempt, Reply, Retry};
 ghost use Rattle.std.specs.List.{Contains};
 ghost use Rattle.std.specs.Prelude.{ℕ, Option, List, suc, ◌∷◌, ◌++◌, ◌≡◌, ◌≢◌, ◌≤◌, ◌<◌, ◌+◌, ◌-◌, ◌↔◌, length, drop, slice_get, Some, None, true, false};
 
@@ -36,6 +37,16 @@ pub fn preemptions_are_releases()
     ensures told { (system : System) (n at : ℕ) (job by : Job) → Contains (events system n) (Preempt at job by) ↔ ((at < n) × IsPreemption system at job by) }
     ensures released { (system : System) (n at : ℕ) (job by : Job) → IsValid system → Contains (events system n) (Preempt at job by) → release system by ≡ at }
     ensures below { (system : System) (n at : ℕ) (job by : Job) → IsValid system → Contains (events system n) (Preempt at job by) → is_below (key system by) (key system job) ≡ true }
+{}
+
+/// The events of the first n slots tell the reply of each attempt that wins in them and the retry of each that is lost,
+/// and only these: with the attempt's first slot and its item, the reply and the tag of the entry that is made, or the
+/// tag that its object had when the attempt began and the one that it has now.
+pub fn replies_and_retries_are_told()
+    ensures replies { (system : System) (n at first : ℕ) (job : Job) (item : ℕ) (reply : Answer) (tag : ℕ) →
+        Contains (events system n) (Reply at first job item reply tag) ↔ ((at < n) × IsReply system at first job item reply tag) }
+    ensures retries { (system : System) (n at first : ℕ) (job : Job) (item expected found : ℕ) →
+        Contains (events system n) (Retry at first job item expected found) ↔ ((at < n) × IsRetry system at first job item expected found) }
 {}
 
 /// The slots of a job are cut into its items in turn: what its complete items ask for, then what is in hand, which is
@@ -78,6 +89,15 @@ pub fn attempts_take_their_cost()
         slots_of job (slots system (suc n)) ≡ slots_of job (slots system (so_far system job n).first) + attempt_cost system object }
     ensures outcome { (system : System) (n object : ℕ) (job : Job) (outcome : Option Entry) → slot_at system n ≡ Decide job object outcome →
         (outcome ≡ None) ↔ IsSpoiled system object (so_far system job n).first n }
+{}
+
+/// An entry that is made in a slot is the operation that its job has in hand: its caller is the job's task, and its object
+/// and its call are those of the job's item.
+pub fn entries_are_operations()
+    ensures caller { (system : System) (n object : ℕ) (job : Job) (entry : Entry) → slot_at system n ≡ Decide job object (Some entry) → entry.caller ≡ job.task }
+    ensures object { (system : System) (n object : ℕ) (job : Job) (entry : Entry) → slot_at system n ≡ Decide job object (Some entry) → entry.object ≡ object }
+    ensures item { (system : System) (n object : ℕ) (job : Job) (entry : Entry) → slot_at system n ≡ Decide job object (Some entry) →
+        item_at system job (so_far system job n).complete ≡ Some (Op object entry.call) }
 {}
 
 /// The tag of an object is the number of its loud entries: in all, and before a slot. The history is that of the table:
