@@ -57,8 +57,8 @@ fn first_states(alloc: Global, set: &TaskSet) -> Result<Vec<State>, NoMemory>
 }
 
 /// One simulated processor, and a set of tasks that it runs, slot by slot, with the objects that they share. It keeps one
-/// started job per task, and counts of released and finished jobs. An operation is a retry loop: its attempt fails only
-/// where its job was preempted during it (Anderson, Ramamurthy and Jeffay, 1997).
+/// started job per task, and counts of released and finished jobs. An operation is a retry loop (after Anderson, Ramamurthy
+/// and Jeffay, 1997): an attempt is lost where another one on its object won strictly between its first slot and its last.
 #[derive(Drop)]
 pub struct Executive<'s> {
     set: &'s TaskSet,
