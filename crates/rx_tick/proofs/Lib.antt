@@ -14,3 +14,4 @@ pub mod Attempts
 pub mod Entries
 pub mod Joins
 pub mod Decisions
+pub mod Bodies

@@ -173,7 +173,7 @@ unfinished_share system n job valid known h =
     let inside : (so_far system job n).complete < length (task_of system job).items = not_done system job n h in
     omega (arith, cut system n job, small system job n valid known inside, up_from system job (so_far system job n).complete (length (task_of system job).items) inside)
 
-stated_op : (rows : List DemandRow) (job : Job) (number object : ℕ) (call : Call) (o : Option Item) → demanded rows job number o ≡ Some (Op object call) → o ≡ Some (Op object call)
+pub stated_op : (rows : List DemandRow) (job : Job) (number object : ℕ) (call : Call) (o : Option Item) → demanded rows job number o ≡ Some (Op object call) → o ≡ Some (Op object call)
 stated_op rows job number object call None e = e
 stated_op rows job number object call (Some (Work ticks)) e = cc
 stated_op rows job number object call (Some (Op other call')) e = e

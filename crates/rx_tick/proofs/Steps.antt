@@ -100,7 +100,7 @@ pub data IsOwn (system : System) (past : List Slot) (job : Job) (slot : Slot) : 
       → won_after object (progress system job past).first past ≡ false → progress system job (slot ∷ past) ≡ completed (progress system job past) → IsOwn system past job slot
 
 module _ (system : System) (past : List Slot) (job : Job) where
-  busy_after : (slot : Slot) (ends : Bool) → slot ≡ Busy job → ends_work (item_in system past job) (made_in system past job) ≡ ends
+  pub busy_after : (slot : Slot) (ends : Bool) → slot ≡ Busy job → ends_work (item_in system past job) (made_in system past job) ≡ ends
       → progress system job (slot ∷ past) ≡ (if ends then completed (progress system job past) else ticked (length past) (progress system job past))
   busy_after slot ends e f =
       ap (λ (s : Slot). progress system job (s ∷ past)) e

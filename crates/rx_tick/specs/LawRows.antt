@@ -1,12 +1,13 @@
 -- The words of the laws, on worked schedules.
-use Rattle.std.specs.Prelude.{◌≡◌, ◌+◌, refl, true, false, [], ◌∷◌, Some, None}
+use Rattle.std.specs.Prelude.{◌≡◌, ◌+◌, refl, true, false, [], ◌∷◌, take, Some, None}
 use Rattle.rx_seq.specs.History.{tag_of}
 use Rattle.rx_seq.specs.declared.calls.Call.TheVariants.{Add}
 use Rattle.rx_seq.specs.declared.replies.Reply.TheVariants.{Done}
+use Rattle.rx_set.specs.System.{task_at}
 use Rattle.rx_tick.specs.Schedule.{Idle, Busy, Decide, history, wins_on, slots, slot_at}
 use Rattle.rx_tick.specs.Events.{wins, wins_below}
-use Rattle.rx_tick.specs.Laws.{who, so_far, finished_before, IsReply, IsRetry, slots_of, asked_up_to, lost_ticks}
-use Rattle.rx_tick.specs.Rows.{job, work_alone, retried}
+use Rattle.rx_tick.specs.Laws.{who, so_far, finished_before, IsReply, IsRetry, slots_of, asked_up_to, lost_ticks, nth_job, operations_of, operations_up_to, operations_in}
+use Rattle.rx_tick.specs.Rows.{job, work_alone, retried, two_calls}
 
 -- b has slots 0, 2 and 3, and a preempts it in slot 1
 pub work_owners : who work_alone 0 ∷ who work_alone 1 ∷ who work_alone 2 ∷ who work_alone 3 ∷ [] ≡ Some (job 1 1) ∷ Some (job 0 1) ∷ Some (job 1 1) ∷ Some (job 1 1) ∷ []
@@ -86,3 +87,31 @@ retried_wins = refl
 
 pub retried_before : wins_below 0 4 (slots retried 10) ≡ 1
 retried_before = refl
+
+-- the third entry of one task is its second job's
+pub calls_history : history (slots two_calls 11) ≡
+    record { caller = 0; index = 3; object = 0; call = Add 1; reply = Done 2; tag = 2 }
+    ∷ record { caller = 0; index = 2; object = 1; call = Add 2; reply = Done 2; tag = 1 }
+    ∷ record { caller = 0; index = 1; object = 0; call = Add 1; reply = Done 1; tag = 1 } ∷ []
+calls_history = refl
+
+-- oldest first they are the operations of one whole body, and then those of the next job's two complete items
+pub calls_made : operations_in 0 (history (slots two_calls 11)) ≡
+    record { object = 0; call = Add 1 } ∷ record { object = 1; call = Add 2 } ∷ record { object = 0; call = Add 1 } ∷ []
+calls_made = refl
+
+pub calls_finished : finished_before two_calls (nth_job 0 1) 11 ≡ true
+calls_finished = refl
+
+pub calls_in_hand : (so_far two_calls (nth_job 0 2) 11).complete ≡ 2
+calls_in_hand = refl
+
+pub calls_up_to : operations_up_to two_calls 0 1 ≡ record { object = 0; call = Add 1 } ∷ record { object = 1; call = Add 2 } ∷ []
+calls_up_to = refl
+
+pub calls_of_two : operations_of (take 2 (task_at two_calls 0).items) ≡ record { object = 0; call = Add 1 } ∷ []
+calls_of_two = refl
+
+-- the other task's entries are left out
+pub retried_made : operations_in 1 (history (slots retried 10)) ≡ record { object = 0; call = Add 5 } ∷ []
+retried_made = refl

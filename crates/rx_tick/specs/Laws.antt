@@ -1,14 +1,16 @@
 -- The words of the laws of the schedule.
-use Rattle.std.specs.Prelude.{ℕ, zero, suc, ◌+◌, ◌≡◌, ◌≢◌, ◌≤◌, ◌<◌, Bool, true, false, if◌then◌else◌, List, [], ◌∷◌, Option, Some, None}
+use Rattle.std.specs.Prelude.{ℕ, zero, suc, ◌+◌, ◌≡◌, ◌≢◌, ◌≤◌, ◌<◌, Bool, true, false, if◌then◌else◌, List, [], ◌∷◌, ◌++◌, map, reverse, take, Option, Some, None}
+use Rattle.std.specs.List.{flat_map}
 use Rattle.rx_seq.specs.History.{tag_of}
+use Rattle.rx_seq.specs.Legal.{entries_of}
 use Rattle.rx_seq.specs.declared.entries.Entry.{Entry}
 use Rattle.rx_seq.specs.declared.replies.Reply.{Reply}
 use Rattle.rx_set.specs.declared.items.Item.{Item}
 use Rattle.rx_set.specs.declared.items.Item.TheVariants.{Work, Op}
 use Rattle.rx_set.specs.declared.jobs.Job.{Job}
-use Rattle.rx_set.specs.System.{System, item_at, attempt_cost, release, key, is_below}
+use Rattle.rx_set.specs.System.{System, task_at, task_of, item_at, attempt_cost, release, key, is_below}
 use Rattle.rx_set.specs.Valid.{IsJobOf}
-use Rattle.rx_tick.specs.Schedule.{Slot, Idle, Busy, Decide, Progress, progress, is_finished, job_in, same, history, slots, slot_at, wins_on}
+use Rattle.rx_tick.specs.Schedule.{Slot, Idle, Busy, Decide, Progress, Asked, jobs_of, progress, is_finished, job_in, same, history, slots, slot_at, wins_on}
 
 -- the job that has slot n
 abbrev pub who : System → ℕ → Option Job
@@ -98,3 +100,35 @@ pub record IsSpoiled (system : System) (object first last : ℕ) : Type 0 where
   pub after : first < at
   pub before : at < last
   pub wins : wins_on object (slot_at system at) ≡ true
+
+-- a job of a task, by its number
+abbrev pub nth_job : ℕ → ℕ → Job
+nth_job task number = record { task = task; number = number }
+
+-- the operations among the items of a body, in order
+abbrev pub operation_of : Item → List Asked
+operation_of (Work ticks) = []
+operation_of (Op object call) = record { object = object; call = call } ∷ []
+
+abbrev pub operations_of : List Item → List Asked
+operations_of items = flat_map operation_of items
+
+-- those of the bodies of the jobs 1 to n of a task, job after job
+abbrev pub operations_up_to : System → ℕ → ℕ → List Asked
+operations_up_to system task n = flat_map (λ job. operations_of (task_of system job).items) (jobs_of task n)
+
+-- those that a task's entries made, oldest first
+abbrev pub made_by : Entry → Asked
+made_by entry = record { object = entry.object; call = entry.call }
+
+abbrev pub operations_in : ℕ → List Entry → List Asked
+operations_in task entries = map made_by (reverse (entries_of task entries))
+
+-- the jobs of a task are finished one after another, and the operations of its entries so far are those of the finished jobs' bodies, and then those of the complete items of the next job
+pub record FollowsBodies (system : System) (task n : ℕ) : Type 0 where
+  pub finished : ℕ
+  pub done : (number : ℕ) → 1 ≤ number → number ≤ finished → finished_before system (nth_job task number) n ≡ true
+  pub in_hand : finished_before system (nth_job task (suc finished)) n ≡ false
+  pub later : (number : ℕ) → suc finished < number → slots_of (nth_job task number) (slots system n) ≡ 0
+  pub entries : operations_in task (history (slots system n)) ≡
+      operations_up_to system task finished ++ operations_of (take (so_far system (nth_job task (suc finished)) n).complete (task_at system task).items)

@@ -113,3 +113,12 @@ pub two_releases_events : events two_releases 8 ≡
     Release 0 (job 2 1) ∷ Release 1 (job 0 1) ∷ Release 1 (job 1 1) ∷ Preempt 1 (job 2 1) (job 0 1) ∷ Reply 2 1 (job 0 1) 1 (Done 1) 1 ∷ Finish 2 (job 0 1)
     ∷ Reply 4 3 (job 1 1) 1 (Done 2) 2 ∷ Finish 4 (job 1 1) ∷ Retry 5 0 (job 2 1) 1 0 2 ∷ Reply 7 6 (job 2 1) 1 (Done 3) 3 ∷ Finish 7 (job 2 1) ∷ []
 two_releases_events = refl
+
+-- one task calls two cells in turn: its first job is finished, and its second has its call on the second cell before it
+abbrev pub two_calls : System
+two_calls = record { policy = Rm; objects = cell ∷ cell ∷ []; tasks = task 8 0 (Op 0 (Add 1) ∷ Work 1 ∷ Op 1 (Add 2) ∷ []) ∷ []; demands = [] }
+
+pub two_calls_events : events two_calls 11 ≡
+    Release 0 (job 0 1) ∷ Reply 1 0 (job 0 1) 1 (Done 1) 1 ∷ Reply 4 3 (job 0 1) 3 (Done 2) 1 ∷ Finish 4 (job 0 1) ∷ Release 8 (job 0 2)
+    ∷ Reply 9 8 (job 0 2) 1 (Done 2) 2 ∷ []
+two_calls_events = refl

@@ -10,7 +10,7 @@ ghost use Rattle.rx_set.specs.declared.items.Item.{Item};
 ghost use Rattle.rx_set.specs.declared.items.Item.TheVariants.{Op};
 ghost use Rattle.rx_set.specs.declared.jobs.Job.{Job};
 ghost use Rattle.rx_tick.specs.Events.{events, wins, wins_below};
-ghost use Rattle.rx_tick.specs.Laws.{IsLeastAt, IsPendingAt, IsPreemption, IsReply, IsRetry, IsSpoiled, asked_by, asked_up_to, finished_before, lost_ticks, slots_of, so_far, who};
+ghost use Rattle.rx_tick.specs.Laws.{FollowsBodies, IsLeastAt, IsPendingAt, IsPreemption, IsReply, IsRetry, IsSpoiled, asked_by, asked_up_to, finished_before, lost_ticks, nth_job, slots_of, so_far, who};
 ghost use Rattle.rx_tick.specs.Schedule.{Busy, Decide, Idle, history, slot_at, slots};
 ghost use Rattle.rx_tick.specs.declared.events.Event.TheVariants.{Preempt, Reply, Retry};
 ghost use Rattle.std.specs.List.{Contains};
@@ -98,6 +98,15 @@ pub fn entries_are_operations()
     ensures object { (system : System) (n object : ℕ) (job : Job) (entry : Entry) → slot_at system n ≡ Decide job object (Some entry) → entry.object ≡ object }
     ensures item { (system : System) (n object : ℕ) (job : Job) (entry : Entry) → slot_at system n ≡ Decide job object (Some entry) →
         item_at system job (so_far system job n).complete ≡ Some (Op object entry.call) }
+{}
+
+/// A job has a slot only once all earlier jobs of its task are finished. So the entries of a task, oldest first, are the
+/// operations of its body, once for each finished job, and then those of the complete items of the next job: none is
+/// left out, made twice or out of order.
+pub fn entries_follow_the_bodies()
+    ensures in_turn { (system : System) (n number : ℕ) (job : Job) → IsValid system → who system n ≡ Some job → 1 ≤ number → number < job.number →
+        finished_before system (nth_job job.task number) n ≡ true }
+    ensures entries { (system : System) (task n : ℕ) → IsValid system → task < length system.tasks → FollowsBodies system task n }
 {}
 
 /// The tag of an object is the number of its loud entries: in all, and before a slot. The history is that of the table:
