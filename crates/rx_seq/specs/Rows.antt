@@ -156,3 +156,36 @@ fits_no_rows = refl
 
 pub fits_no_zeros : fits_part registers (Multi 1 (row 0 0 5 ∷ row 1 0 6 ∷ row 0 0 0 ∷ row 0 0 0 ∷ [])) ≡ false
 fits_no_zeros = refl
+
+-- a longer queue gives back first what came first
+pub put_behind : effect (record { kind = Queue; cap = 2 }) (5 ∷ []) (Put 6) ≡ answers (5 ∷ 6 ∷ []) (Done 2)
+put_behind = refl
+
+pub take_first : effect (record { kind = Queue; cap = 2 }) (5 ∷ 6 ∷ []) Take ≡ answers (6 ∷ []) (Done 5)
+take_first = refl
+
+-- a longer list stays in order
+pub list_start : start_of ordered ≡ []
+list_start = refl
+
+pub remove_between : effect (record { kind = Ordered; cap = 4 }) (3 ∷ 7 ∷ 9 ∷ []) (Remove 7) ≡ answers (3 ∷ 9 ∷ []) Removed
+remove_between = refl
+
+-- too little is told before a sum that would not fit
+pub short_before_over : effect registers (1 ∷ 4294967295 ∷ 0 ∷ 0 ∷ []) (Shift 0 1 5) ≡ answers (1 ∷ 4294967295 ∷ 0 ∷ 0 ∷ []) (Short 1)
+short_before_over = refl
+
+-- two of the rows differ, and the first of them is told
+pub multi_first : effect registers (5 ∷ 6 ∷ 7 ∷ 8 ∷ []) (all_four (row 3 8 1) (row 1 0 1) (row 2 0 1) (row 0 5 1)) ≡ answers (5 ∷ 6 ∷ 7 ∷ 8 ∷ []) (Differs 6)
+multi_first = refl
+
+-- a transaction of two rows
+pub multi_two : effect registers (5 ∷ 6 ∷ 7 ∷ 8 ∷ []) (Multi 2 (row 2 7 9 ∷ row 0 5 1 ∷ row 0 0 0 ∷ row 0 0 0 ∷ [])) ≡ answers (1 ∷ 6 ∷ 9 ∷ 8 ∷ []) (Done 2)
+multi_two = refl
+
+-- a register past the last one fits no call
+pub fits_far_shift : fits_part registers (Shift 0 4 1) ≡ false
+fits_far_shift = refl
+
+pub fits_far_multi : fits_part registers (Multi 1 (row 4 0 5 ∷ row 0 0 0 ∷ row 0 0 0 ∷ row 0 0 0 ∷ [])) ≡ false
+fits_far_multi = refl
