@@ -1,5 +1,6 @@
 -- Plans of a cell.
 use Rattle.std.proofs.Common.{◌≡◌, ℕ, ◌+◌, ◌<◌, List, [], ◌∷◌, refl, sym, ap, ◌∙◌, subst, arith}
+use Rattle.std.specs.Prelude.{slice_index}
 use Rattle.rx_seq.specs.declared.kinds.Kind.{Kind}
 use Rattle.rx_seq.specs.declared.kinds.Kind.TheVariants.{Cell}
 use Rattle.rx_seq.specs.declared.calls.Call.{Call}
@@ -11,7 +12,8 @@ use Rattle.rx_shape.specs.declared.plans.Taken.{Taken}
 use Rattle.rx_shape.specs.Words.{pack, tag_of, low_of}
 use Rattle.rx_shape.specs.Places.{times}
 use Rattle.rx_shape.specs.Forms.{form_of, live_as, decoded_as, IsFormedAs, IsStockAs, live, decoded, IsFormed, IsStock, IsVersion}
-use Rattle.rx_shape.specs.Asks.{Answers, IsPlanned}
+use Rattle.rx_shape.specs.Settled.{Answers}
+use Rattle.rx_shape.specs.Asks.{IsPlanned}
 
 module _ (home : Home) (kind : home.part.kind ≡ Cell) where
   pub live_inline : (root : ℕ) (words : List ℕ) → live home root words ≡ []
@@ -42,7 +44,7 @@ module _ (home : Home) (kind : home.part.kind ≡ Cell) where
   }
 
   pub answers_inline : (call : Call) (root : ℕ) (taken : List Taken) → Answers home call root taken (effect home.part (low_of root ∷ []) call)
-  answers_inline call root taken words v read = ap (λ (state : List ℕ). effect home.part state call) (decoded_inline root words)
+  answers_inline call root taken words has = ap (λ (state : List ℕ). effect home.part state call) (decoded_inline root words)
 
   pub planned_inline : (call : Call) (root : ℕ) (own : List ℕ) (new low : ℕ) (reply : Reply) → IsStock home own → low < 16777216 → new ≡ pack (tag_of root + 1) low → ((cap : ℕ) → effect_by cap (low_of root ∷ []) call ≡ answers (low ∷ []) reply) → IsPlanned home call root [] own new [] [] reply
   planned_inline call root own new low reply stock few is answer =
@@ -61,4 +63,5 @@ module _ (home : Home) (kind : home.part.kind ≡ Cell) where
         once = tt;
         below = tt;
         says = λ words v read. sym (ap (λ (e : Effect). e.reply) (answer_at words));
+        quiet = λ words v read equal. (refl, refl, low_is ∙ ap (λ (state : List ℕ). slice_index state 0) (sym (ap (λ (e : Effect). e.state) (answer_at words)) ∙ equal ∙ decoded_inline root words));
       }

@@ -4,3 +4,8 @@ pub mod Local
 pub mod InlinePlans
 pub mod BlockForm
 pub mod Starts
+pub mod Walked
+pub mod BlockWants
+pub mod Moving
+pub mod Served
+pub mod Settling

@@ -84,3 +84,10 @@ same_run words others first (suc count) h = λ k. h first (omega arith) (omega a
 pub length-read_run : (words : List ℕ) (first count : ℕ) → length (read_run words first count) ≡ count
 length-read_run words first zero = refl
 length-read_run words first (suc count) = ap suc (length-read_run words (first + 1) count)
+
+pub run_grows : (first count : ℕ) → run first (count + 1) ≡ run first count ++ (first + count) ∷ []
+run_grows first zero = ap (λ (p : ℕ). p ∷ []) (let e : first ≡ first + 0 = omega arith in e)
+run_grows first (suc count) =
+    ap (run first) (let e : suc count + 1 ≡ suc (count + 1) = omega arith in e)
+    ∙ ap (λ (ps : List ℕ). first ∷ ps) (run_grows (first + 1) count)
+    ∙ ap (λ (p : ℕ). first ∷ run (first + 1) count ++ p ∷ []) (let e : first + 1 + count ≡ first + suc count = omega arith in e)

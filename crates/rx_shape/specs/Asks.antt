@@ -2,25 +2,22 @@
 use Rattle.std.specs.Prelude.{ℕ, ◌≡◌, ◌+◌, ◌<◌, List, [], ◌∷◌, ◌++◌, length}
 use Rattle.rx_seq.specs.declared.calls.Call.{Call}
 use Rattle.rx_seq.specs.declared.replies.Reply.{Reply}
-use Rattle.rx_seq.specs.Table.{Effect, effect}
+use Rattle.rx_seq.specs.Table.{effect}
 use Rattle.rx_shape.specs.declared.homes.Home.{Home}
 use Rattle.rx_shape.specs.declared.plans.Taken.{Taken}
 use Rattle.rx_shape.specs.declared.plans.Write.{Write}
 use Rattle.rx_shape.specs.declared.plans.Pair.{Pair}
 use Rattle.rx_shape.specs.declared.plans.Want.{Want}
 use Rattle.rx_shape.specs.declared.plans.Want.TheVariants.{Read, Ready, Stale}
+use Rattle.rx_shape.specs.Words.{low_of}
 use Rattle.rx_shape.specs.Forms.{stock_size, InRange, live, decoded, IsVersion}
 use Rattle.rx_shape.specs.Versions.{HasRead, NotWritten, Plans, IsStale}
-
--- whatever version has the words taken, the call makes this of its state, and has this reply
-abbrev pub Answers : Home → Call → ℕ → List Taken → Effect → Type 0
-Answers home call root taken answer =
-    (words : List ℕ) → IsVersion home root words → HasRead (live home root words) words taken → effect home.part (decoded home root words) call ≡ answer
+use Rattle.rx_shape.specs.Settled.{IsSettled}
 
 -- what an answer of `want` means
 abbrev pub Wants : Home → Call → ℕ → List Taken → Want → Type 0
 Wants home call root taken (Read place) = InRange home place × (length taken < home.part.cap + 2)
-Wants home call root taken Ready = (answer : Effect) × Answers home call root taken answer
+Wants home call root taken Ready = IsSettled home call root taken
 Wants home call root taken Stale = IsStale home root taken
 
 -- each own number at most once, and none of those already written
@@ -33,9 +30,12 @@ abbrev pub EachBelow : ℕ → List Pair → Type 0
 EachBelow count [] = Unit {0}
 EachBelow count (pair ∷ pairs) = (pair.own < count) × EachBelow count pairs
 
--- a plan and its reply, for the words taken and the own places
+-- a plan and its reply, for the words taken and the own places. Where the call leaves the state equal, nothing is written or
+-- traded, and the new root names the same place
 pub record IsPlanned (home : Home) (call : Call) (root : ℕ) (taken : List Taken) (own : List ℕ) (new : ℕ) (writes : List Write) (pairs : List Pair) (reply : Reply) : Type 0 where
   pub plans : Plans home call root taken own writes new pairs
   pub once : WritesOnce (stock_size home.part) [] writes
   pub below : EachBelow (stock_size home.part) pairs
   pub says : (words : List ℕ) → IsVersion home root words → HasRead (live home root words) words taken → reply ≡ (effect home.part (decoded home root words) call).reply
+  pub quiet : (words : List ℕ) → IsVersion home root words → HasRead (live home root words) words taken → (effect home.part (decoded home root words) call).state ≡ decoded home root words
+      → (writes ≡ []) × (pairs ≡ []) × (low_of new ≡ low_of root)

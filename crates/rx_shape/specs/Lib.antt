@@ -4,5 +4,8 @@ pub mod Forms
 pub mod Layout
 pub mod Versions
 pub mod Start
+pub mod Settled
 pub mod Asks
+pub mod Walks
+pub mod Moves
 pub mod Rows

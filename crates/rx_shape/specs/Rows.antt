@@ -1,10 +1,24 @@
--- Worked rows of words and of their numbering.
-use Rattle.std.specs.Prelude.{◌≡◌, refl, [], ◌∷◌, replicate}
+-- Worked rows of words, of their numbering, and of attempts on blocks.
+use Rattle.std.specs.Prelude.{ℕ, ◌≡◌, refl, [], ◌∷◌, replicate}
 use Rattle.rx_seq.specs.declared.kinds.Kind.TheVariants.{Cell, Queue, Registers}
+use Rattle.rx_seq.specs.declared.replies.Reply.TheVariants.{Full}
 use Rattle.rx_shape.specs.Words.{pack, tag_of, low_of}
-use Rattle.rx_shape.specs.Forms.{start_own}
+use Rattle.rx_shape.specs.Forms.{inline, block, start_own, live_as, decoded_as}
 use Rattle.rx_shape.specs.Layout.{Layout, words_of, first_place, home}
 use Rattle.rx_shape.specs.Start.{start_word}
+use Rattle.rx_shape.specs.declared.plans.Taken.{Taken}
+use Rattle.rx_shape.specs.declared.plans.Write.{Write}
+use Rattle.rx_shape.specs.declared.plans.Want.TheVariants.{Read, Ready, Stale}
+use Rattle.rx_shape.specs.declared.steps.Step.TheVariants.{Open, Broken, Kept, Whole}
+use Rattle.rx_shape.specs.Versions.{traded}
+use Rattle.rx_shape.specs.Walks.{at_run, numbers_of, next_want}
+use Rattle.rx_shape.specs.Moves.{block_writes, block_pairs}
+
+abbrev write : ℕ → ℕ → Write
+write own value = record { own = own; value = value }
+
+abbrev taken : ℕ → ℕ → Taken
+taken place word = record { place = place; word = word }
 
 -- a tag of 1 and a low part of 1
 pub one_and_one : pack 1 1 ≡ 16777217
@@ -84,3 +98,51 @@ largest = record { parts = replicate 16 (record { kind = Queue; cap = 64 }); sea
 
 pub largest_words : words_of largest ≡ 67617
 largest_words = refl
+
+-- the state 3, 7, 9 is written into an own block as its length and its numbers
+pub written_block : block_writes (3 ∷ 7 ∷ 9 ∷ []) ≡ write 0 3 ∷ write 1 3 ∷ write 2 7 ∷ write 3 9 ∷ []
+written_block = refl
+
+-- an own block at places 13 to 15 trades them for those of the block at place 10
+pub traded_block : traded (13 ∷ 14 ∷ 15 ∷ []) (block_pairs 0 10 3) ≡ 10 ∷ 11 ∷ 12 ∷ []
+traded_block = refl
+
+-- a walk at place 10 has read the length and one of two numbers
+pub read_words : at_run 10 (2 ∷ 3 ∷ []) ≡ taken 10 2 ∷ taken 11 3 ∷ []
+read_words = refl
+
+pub numbers_read : numbers_of (2 ∷ 3 ∷ 9 ∷ []) ≡ 3 ∷ 9 ∷ []
+numbers_read = refl
+
+-- the next place is wanted while words are missing, and none of a block that does not fit the object's places
+pub next_word : next_want (home small 1) Open 4 1 ≡ Read 5
+next_word = refl
+
+pub no_block : next_want (home small 1) Open 9 0 ≡ Stale
+no_block = refl
+
+-- what is read of an object settles the call, or no state has it: then nothing more is wanted
+pub nothing_more : next_want (home small 1) Whole 4 2 ≡ Ready
+nothing_more = refl
+
+pub nothing_of_use : next_want (home small 1) Broken 4 1 ≡ Stale
+nothing_of_use = refl
+
+pub answered_early : next_want (home small 1) (Kept Full) 4 1 ≡ Ready
+answered_early = refl
+
+-- a queue whose block at place 4 has one number, 42, and registers whose block at place 4 has 7 and 8
+pub queue_places : live_as block (home small 1) (pack 5 4) (0 ∷ 0 ∷ 0 ∷ 0 ∷ 1 ∷ 42 ∷ []) ≡ 4 ∷ 5 ∷ []
+queue_places = refl
+
+pub queue_state : decoded_as block (home small 1) (pack 5 4) (0 ∷ 0 ∷ 0 ∷ 0 ∷ 1 ∷ 42 ∷ []) ≡ 42 ∷ []
+queue_state = refl
+
+pub empty_queue : decoded_as block (home small 1) (pack 5 4) (0 ∷ 0 ∷ 0 ∷ 0 ∷ 0 ∷ 42 ∷ []) ≡ []
+empty_queue = refl
+
+pub registers_state : decoded_as block (home small 2) (pack 5 4) (0 ∷ 0 ∷ 0 ∷ 0 ∷ 2 ∷ 7 ∷ 8 ∷ []) ≡ 7 ∷ 8 ∷ []
+registers_state = refl
+
+pub cell_state : decoded_as inline (home small 0) (pack 5 9) [] ≡ 9 ∷ []
+cell_state = refl

@@ -1,18 +1,22 @@
 //! Laws of objects in memory. Each function does nothing: its contract is the law, and holds of every object.
+ghost use Rattle.rx_seq.specs.History.{part_at};
+ghost use Rattle.rx_seq.specs.Table.{effect, fits_part};
 ghost use Rattle.rx_seq.specs.declared.calls.Call.{Call};
 ghost use Rattle.rx_seq.specs.declared.replies.Reply.{Reply};
 ghost use Rattle.rx_shape.specs.Asks.{IsPlanned};
 ghost use Rattle.rx_shape.specs.Forms.{InRange, IsStock, IsVersion, block, decoded, form_of, live, start_own, stock_size};
 ghost use Rattle.rx_shape.specs.Layout.{IsLayout, Layout, home, root_of, words_of};
 ghost use Rattle.rx_shape.specs.Places.{run, times};
+ghost use Rattle.rx_shape.specs.Settled.{HasTaken, IsSettled};
 ghost use Rattle.rx_shape.specs.Start.{IsStart};
 ghost use Rattle.rx_shape.specs.Versions.{HasRead, HasWritten, Makes, Plans, Same, Starts, traded};
+ghost use Rattle.rx_shape.specs.Walks.{ServesBlocks};
 ghost use Rattle.rx_shape.specs.Words.{low_of, pack, tag_of};
 ghost use Rattle.rx_shape.specs.declared.homes.Home.{Home};
 ghost use Rattle.rx_shape.specs.declared.plans.Pair.{Pair};
 ghost use Rattle.rx_shape.specs.declared.plans.Taken.{Taken};
 ghost use Rattle.rx_shape.specs.declared.plans.Write.{Write};
-ghost use Rattle.std.specs.Prelude.{ℕ, suc, ◌≡◌, ◌≤◌, ◌<◌, ◌+◌, List, length, slice_index};
+ghost use Rattle.std.specs.Prelude.{ℕ, suc, ◌≡◌, ◌≤◌, ◌<◌, ◌+◌, true, List, length, slice_index};
 
 /// The words of the live places alone decide the live places, the state, and that there is a version. Of the root only
 /// the low part does.
@@ -65,4 +69,16 @@ pub fn objects_start()
 /// A root word is the one with its tag and its low part.
 pub fn roots_are_pairs()
     ensures { (word : ℕ) → word ≡ pack (tag_of word) (low_of word) }
+{}
+
+/// Where the words taken settle a call, all versions with this root that have them give it one reply. Where two of
+/// them have different next states, each keeps its own state.
+pub fn settled_calls_stay()
+    ensures reply { (home : Home) (call : Call) (root : ℕ) (taken : List Taken) (words others : List ℕ) → IsSettled home call root taken → HasTaken home root taken words → HasTaken home root taken others → (effect home.part (decoded home root words) call).reply ≡ (effect home.part (decoded home root others) call).reply }
+    ensures state { (home : Home) (call : Call) (root : ℕ) (taken : List Taken) (words others : List ℕ) → IsSettled home call root taken → HasTaken home root taken words → HasTaken home root taken others → ((effect home.part (decoded home root words) call).state ≡ (effect home.part (decoded home root others) call).state → ⊥) → ((effect home.part (decoded home root words) call).state ≡ decoded home root words) × ((effect home.part (decoded home root others) call).state ≡ decoded home root others) }
+{}
+
+/// A walk over blocks serves each object of a layout that has block form, and each call that fits it.
+pub fn blocks_are_served()
+    ensures { (layout : Layout) (object : ℕ) (call : Call) → IsLayout layout → object < length layout.parts → form_of (part_at layout.parts object).kind ≡ block → fits_part (part_at layout.parts object) call ≡ true → ServesBlocks (home layout object) call }
 {}

@@ -213,7 +213,7 @@ fn start_length(part: Part) -> u64
 }
 
 /// Adds the numbers of a block to an empty state.
-fn read_block(words: &[u64], first: u32, state: &mut State)
+pub(crate) fn read_block(words: &[u64], first: u32, state: &mut State)
     requires empty { state.old.items ≡ [] }
     requires block { IsBlock words.now first }
     ensures { state.new.items ≡ read_run words.now (first + 1) (slice_index words.now first) }

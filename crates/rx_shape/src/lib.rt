@@ -2,17 +2,21 @@
 //! read a version and plan the next one. What a root and the words stand for is `specs/Forms.antt`.
 #![tactic(auto)]
 
+mod blocks;
 mod cells;
 mod homes;
 mod inline;
 pub mod laws;
 mod layouts;
+mod moves;
 mod plans;
 mod roots;
 mod shapes;
+mod steps;
 #[cfg(test)]
 mod tests;
 
+pub use blocks::Blocks;
 pub use homes::Home;
 pub use inline::Inline;
 pub use layouts::{Layout, stock};

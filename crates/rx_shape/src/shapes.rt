@@ -44,8 +44,9 @@ pub trait Shape {
         ensures taken { (root : ℕ) → taken result root ≡ [] };
 
     /// The next place to read, which is one of the object's. It answers `Ready` only where all versions with this root
-    /// that have the words taken give one reply and one next state, and `Stale` only where there is no such version.
-    /// After at most the capacity and 2 words it answers `Ready` or `Stale`.
+    /// that have the words taken give one reply, and either have one next state or each keep their own. It answers
+    /// `Stale` only where there is no such version. After at most the capacity and 2 words it answers `Ready` or
+    /// `Stale`.
     fn want(&self, root: u64) -> Want
         requires { 0 < stock_size (home self.now).part → InRange (home self.now) (low_of root) }
         ensures next { result ≡ next self.now root }

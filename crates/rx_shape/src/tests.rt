@@ -1,8 +1,12 @@
-// Words of a small layout, and attempts on a cell.
+// Words of a small layout, and attempts on a cell and on blocks.
+ghost use Rattle.rx_seq.specs.Table.{IsPart};
+ghost use Rattle.rx_shape.specs.Forms.{block, form_of};
+ghost use Rattle.rx_shape.specs.Places.{run};
+ghost use Rattle.std.specs.Prelude.{◌≡◌, ◌≤◌, ◌+◌};
 
 use super::*;
 use arrayvec::ArrayVec;
-use rx_seq::{Call, Kind, Part, Reply};
+use rx_seq::{Call, Kind, Part, Reply, Row, fits};
 use std::test::Fail;
 
 #[test]
@@ -44,13 +48,7 @@ fn attempt_on_a_cell(rt: HostRuntime) {
         kind: Kind::Cell,
         cap: 1,
     };
-    let mut plan = Plan {
-        root: 0,
-        writes: ArrayVec::new(),
-        trade: Trade {
-            pairs: ArrayVec::new(),
-        },
-    };
+    let mut plan = no_plan();
     let shape = Inline::start(part, Call::Add { v: 3 }, 0, 0);
     assert_eq!(rt; shape.want(16_777_220), Want::Ready);
     let reply = shape.plan(16_777_220, &ArrayVec::new(), &mut plan);
@@ -58,4 +56,168 @@ fn attempt_on_a_cell(rt: HostRuntime) {
     assert_eq!(rt; plan.root, 33_554_439);
     assert_eq!(rt; plan.writes.len(), 0);
     assert_eq!(rt; plan.trade.pairs.len(), 0);
+}
+
+fn no_plan() -> Plan {
+    Plan {
+        root: 0,
+        writes: ArrayVec::new(),
+        trade: Trade {
+            pairs: ArrayVec::new(),
+        },
+    }
+}
+
+/// So many places that follow each other.
+fn places(first: u32, count: u32) -> ArrayVec<u32, 65>
+    requires first { first ≤ 1000 }
+    requires count { count ≤ 65 }
+    ensures { result.items ≡ run first count }
+{
+    let mut places = ArrayVec::new();
+    for n in 0..count {
+        places.push(first + n);
+    }
+    places
+}
+
+/// An attempt on a block that stands from place 10 on, with tag 7 and with these words. The own block stands after it.
+/// It tells how many words were read, and the reply, or `None` where the words are of no version.
+fn attempt(part: Part, call: Call, words: &[u64], plan: &mut Plan) -> (usize, Option<Reply>)
+    requires part { IsPart part }
+    requires form { form_of part.kind ≡ block }
+{
+    if !fits(part, call) {
+        return (0, None);
+    }
+    let size = stock(part);
+    let mut shape = Blocks::start(part, call, 10, 2 * size);
+    let root = pack(7, 10);
+    let mut read = 0;
+    for (n, word) in words.iter().enumerate() {
+        if let Want::Read { .. } = shape.want(root) {
+            shape.take(*word);
+            read = n + 1;
+        }
+    }
+    match shape.want(root) {
+        Want::Ready => {
+            let own = places(10 + size, size);
+            (read, Some(shape.plan(root, &own, plan)))
+        }
+        _ => (read, None),
+    }
+}
+
+/// Whether the plan writes these values under the own numbers from 0 on.
+fn writes(plan: &Plan, values: &[u64]) -> bool {
+    if plan.writes.len() != values.len() {
+        return false;
+    }
+    for (own, write) in plan.writes.iter().enumerate() {
+        if write.own as usize != own || own >= values.len() || write.value != values[own] {
+            return false;
+        }
+    }
+    true
+}
+
+#[test]
+fn attempts_on_a_queue(rt: HostRuntime) {
+    let queue = Part {
+        kind: Kind::Queue,
+        cap: 2,
+    };
+    let mut plan = no_plan();
+    let put = Call::Put { v: 7 };
+    let found = attempt(queue, put, &[1, 5], &mut plan);
+    assert_eq!(rt; found, (2, Some(Reply::Done { v: 2 })));
+    assert_eq!(rt; plan.root, pack(8, 13));
+    assert!(rt; writes(&plan, &[2, 5, 7]));
+    assert_eq!(rt; plan.trade.pairs.len(), 3);
+    let found = attempt(queue, put, &[2, 5, 6], &mut plan);
+    assert_eq!(rt; found, (1, Some(Reply::Full)));
+    assert_eq!(rt; plan.root, pack(8, 10));
+    assert_eq!(rt; plan.writes.len(), 0);
+    assert_eq!(rt; plan.trade.pairs.len(), 0);
+    let found = attempt(queue, Call::Take, &[2, 5, 6], &mut plan);
+    assert_eq!(rt; found, (3, Some(Reply::Done { v: 5 })));
+    assert!(rt; writes(&plan, &[1, 6]));
+    let found = attempt(queue, Call::Take, &[0, 5], &mut plan);
+    assert_eq!(rt; found, (1, Some(Reply::Empty)));
+    assert_eq!(rt; attempt(queue, put, &[3, 5, 6], &mut plan), (1, None));
+    assert_eq!(rt;
+        attempt(queue, put, &[1, 4_294_967_296], &mut plan),
+        (2, None)
+    );
+}
+
+#[test]
+fn attempts_on_a_list(rt: HostRuntime) {
+    let list = Part {
+        kind: Kind::List,
+        cap: 3,
+    };
+    let mut plan = no_plan();
+    let found = attempt(list, Call::Insert { k: 7 }, &[2, 3, 9], &mut plan);
+    assert_eq!(rt; found, (3, Some(Reply::Added)));
+    assert!(rt; writes(&plan, &[3, 3, 7, 9]));
+    let found = attempt(list, Call::Insert { k: 3 }, &[2, 3, 9], &mut plan);
+    assert_eq!(rt; found, (2, Some(Reply::Present)));
+    let full = [3, 3, 9, 12];
+    let found = attempt(list, Call::Insert { k: 4 }, &full, &mut plan);
+    assert_eq!(rt; found, (3, Some(Reply::Full)));
+    let found = attempt(list, Call::Insert { k: 13 }, &full, &mut plan);
+    assert_eq!(rt; found, (4, Some(Reply::Full)));
+    assert_eq!(rt; plan.writes.len(), 0);
+    let found = attempt(list, Call::Remove { k: 3 }, &full, &mut plan);
+    assert_eq!(rt; found, (4, Some(Reply::Removed)));
+    assert!(rt; writes(&plan, &[2, 9, 12]));
+    let found = attempt(list, Call::Remove { k: 4 }, &full, &mut plan);
+    assert_eq!(rt; found, (3, Some(Reply::Absent)));
+    let found = attempt(list, Call::Has { k: 3 }, &full, &mut plan);
+    assert_eq!(rt; found, (2, Some(Reply::Yes)));
+    let found = attempt(list, Call::Has { k: 1 }, &full, &mut plan);
+    assert_eq!(rt; found, (2, Some(Reply::No)));
+    let found = attempt(list, Call::Has { k: 1 }, &[0], &mut plan);
+    assert_eq!(rt; found, (1, Some(Reply::No)));
+    let found = attempt(list, Call::Has { k: 13 }, &[3, 9, 3, 12], &mut plan);
+    assert_eq!(rt; found, (3, None));
+}
+
+#[test]
+fn attempts_on_registers(rt: HostRuntime) {
+    let registers = Part {
+        kind: Kind::Registers,
+        cap: 3,
+    };
+    let mut plan = no_plan();
+    let words = [3, 5, 6, 4_294_967_295];
+    let found = attempt(registers, Call::Read { i: 1 }, &words, &mut plan);
+    assert_eq!(rt; found, (3, Some(Reply::Done { v: 6 })));
+    let shift = |from, to, n| Call::Shift { from, to, n };
+    let found = attempt(registers, shift(2, 0, 2), &words, &mut plan);
+    assert_eq!(rt; found, (4, Some(Reply::Done { v: 7 })));
+    assert!(rt; writes(&plan, &[3, 7, 6, 4_294_967_293]));
+    let found = attempt(registers, shift(0, 2, 6), &words, &mut plan);
+    assert_eq!(rt; found, (2, Some(Reply::Short { v: 5 })));
+    let found = attempt(registers, shift(0, 2, 1), &words, &mut plan);
+    assert_eq!(rt; found, (4, Some(Reply::Over)));
+    let found = attempt(registers, shift(0, 1, 0), &words, &mut plan);
+    assert_eq!(rt; found, (3, Some(Reply::Done { v: 6 })));
+    assert_eq!(rt; plan.writes.len(), 0);
+    let row = |i, old, new| Row { i, old, new };
+    let multi = |old| Call::Multi {
+        count: 2,
+        rows: [row(0, 5, 1), row(1, old, 2), Row::default(), Row::default()],
+    };
+    let found = attempt(registers, multi(7), &words, &mut plan);
+    assert_eq!(rt; found, (3, Some(Reply::Differs { v: 6 })));
+    let found = attempt(registers, multi(6), &words, &mut plan);
+    assert_eq!(rt; found, (4, Some(Reply::Done { v: 2 })));
+    assert!(rt; writes(&plan, &[3, 1, 2, 4_294_967_295]));
+    assert_eq!(rt;
+        attempt(registers, multi(6), &[2, 5, 6], &mut plan),
+        (1, None)
+    );
 }

@@ -2,4 +2,4 @@ use Rattle.rx_shape.proofs.InlinePlans.{stock_inline}
 use Rattle.rx_shape.proofs.tests.attempt_on_a_cell.Goals as goal
 
 pub plan-reply-requires-clause-stock : goal.plan-reply-requires-clause-stock
-plan-reply-requires-clause-stock g c = rw c.new-3.ensures (stock_inline c.start-shape.result.home c.start-shape.result.cell)
+plan-reply-requires-clause-stock g c = rw c.new.ensures (stock_inline c.start-shape.result.home c.start-shape.result.cell)

@@ -1,0 +1,89 @@
+// Plans of a block: it stays as it is, or its next state moves into the own block.
+ghost use Rattle.rx_shape.specs.Moves.{block_pairs, block_writes};
+ghost use Rattle.rx_shape.specs.Places.{read_run};
+ghost use Rattle.rx_shape.specs.Walks.{IsWhole, numbers_of};
+ghost use Rattle.rx_shape.specs.Words.{low_of as low_in, pack as packed, tag_of as tag_in};
+ghost use Rattle.std.specs.Prelude.{ℕ, suc, ◌≡◌, ◌+◌, ◌<◌, ◌≤◌, ◌^◌, true, false, [], length, slice_index};
+
+use crate::plans::{Pair, Plan, Write};
+use crate::roots::{low_of, pack, tag_of};
+use arrayvec::ArrayVec;
+
+/// The plan of a call that leaves the state equal: the same place with the tag one higher. It takes constant time.
+pub(crate) fn stay(root: u64, out: &mut Plan)
+    requires { tag_in root + 1 < 2 ^ 40 }
+    ensures root { out.new.root ≡ packed (tag_in root + 1) (low_in root) }
+    ensures writes { out.new.writes.items ≡ [] }
+    ensures pairs { out.new.trade.pairs.items ≡ [] }
+{
+    out.root = pack(tag_of(root) + 1, low_of(root));
+    out.writes.clear();
+    out.trade.pairs.clear();
+}
+
+/// The plan of a call that makes this state: it is written into the own block, which trades places with the old one.
+/// It takes time that grows with the state and the block.
+pub(crate) fn move_block(root: u64, own: &[u32], state: &[u32], out: &mut Plan)
+    requires tag { tag_in root + 1 < 2 ^ 40 }
+    requires some { 0 < length own.now }
+    requires few { length own.now ≤ 65 }
+    requires place { slice_index own.now 0 < 2 ^ 24 }
+    requires state { length state.now ≤ 64 }
+    ensures root { out.new.root ≡ packed (tag_in root + 1) (slice_index own.now 0) }
+    ensures writes { out.new.writes.items ≡ block_writes state.now }
+    ensures pairs { out.new.trade.pairs.items ≡ block_pairs 0 (low_in root) (length own.now) }
+{
+    out.root = pack(tag_of(root) + 1, own[0]);
+    write_block(state, &mut out.writes);
+    trade_block(low_of(root), own.len() as u32, &mut out.trade.pairs);
+}
+
+/// Writes the length and the numbers.
+fn write_block(state: &[u32], writes: &mut ArrayVec<Write, 65>)
+    requires { length state.now ≤ 64 }
+    ensures { writes.new.items ≡ block_writes state.now }
+{
+    writes.clear();
+    writes.push(Write {
+        own: 0,
+        value: state.len() as u64,
+    });
+    for number in 0..state.len() {
+        writes.push(Write {
+            own: number as u32 + 1,
+            value: u64::from(state[number]),
+        });
+    }
+}
+
+/// Gives each own number its place of the block from this place on.
+fn trade_block(place: u32, count: u32, pairs: &mut ArrayVec<Pair, 65>)
+    requires place { place < 2 ^ 24 }
+    requires count { count ≤ 65 }
+    ensures { pairs.new.items ≡ block_pairs 0 place count }
+{
+    pairs.clear();
+    for own in 0..count {
+        pairs.push(Pair {
+            own,
+            place: place + own,
+        });
+    }
+}
+
+/// Whether a state has the numbers of a block that was read whole.
+pub(crate) fn is_same(words: &[u64], state: &[u32]) -> bool
+    requires { length words.now ≡ suc (slice_index words.now 0) }
+    ensures yes { result ≡ true → state.now ≡ numbers_of words.now }
+    ensures no { result ≡ false → state.now ≡ numbers_of words.now → ⊥ }
+{
+    if state.len() as u64 != words[0] {
+        return false;
+    }
+    for number in 0..state.len() {
+        if u64::from(state[number]) != words[number + 1] {
+            return false;
+        }
+    }
+    true
+}
