@@ -1,18 +1,19 @@
 -- Worked rows: two seats add 1 to one cell, and the exchange of one of them loses to the other's.
 use Rattle.std.specs.Prelude.{ℕ, ◌≡◌, ◌==◌, if◌then◌else◌, refl, true, false, List, [], ◌∷◌, Some, None}
-use Rattle.rx_seq.specs.declared.kinds.Kind.TheVariants.{Cell}
+use Rattle.rx_seq.specs.declared.kinds.Kind.TheVariants.{Cell, Queue}
 use Rattle.rx_seq.specs.declared.calls.Call.{Call}
-use Rattle.rx_seq.specs.declared.calls.Call.TheVariants.{Add}
+use Rattle.rx_seq.specs.declared.calls.Call.TheVariants.{Add, Put}
 use Rattle.rx_seq.specs.declared.replies.Reply.TheVariants.{Done}
 use Rattle.rx_seq.specs.declared.entries.Entry.{Entry}
 use Rattle.rx_shape.specs.declared.plans.Pair.{Pair}
 use Rattle.rx_shape.specs.Places.{total}
 use Rattle.rx_shape.specs.Layout.{Layout, root_of}
 use Rattle.rx_shape.specs.Start.{start_word}
+use Rattle.rx_port.specs.declared.views.Attempt.{Attempt}
 use Rattle.rx_port.specs.declared.views.Known.{Known}
 use Rattle.rx_port.specs.declared.views.View.{View}
 use Rattle.rx_port.specs.declared.views.Core.{Core}
-use Rattle.rx_port.specs.Core.{tag_after, loaded, exchanged, new_attempt, begun_view, entry_for, history_after, decided_known, exchange_of, traded_own, decided_view}
+use Rattle.rx_port.specs.Core.{tag_after, own_of, loaded, stored, exchanged, new_attempt, begun_view, with_read, read_view, written_view, entry_for, history_after, decided_known, exchange_of, traded_own, decided_view}
 use Rattle.rx_port.specs.Lawful.{joined_in}
 use Rattle.rx_port.specs.Seats.{newcomer, seated, no_counts}
 use Rattle.rx_port.specs.Plain.{view_at}
@@ -145,3 +146,56 @@ keeper = record (newcomer small None 0 None) { joined = record { number = 1; see
 
 pub kept_once : total (joined_in 1) (keeper ∷ joined_away ∷ []) ≡ 1
 kept_once = refl
+
+-- A seat puts 42 into an empty queue of one number: it loads the root, reads the length, writes a block of its own and
+-- exchanges the root
+abbrev one_queue : Layout
+one_queue = record { parts = record { kind = Queue; cap = 1 } ∷ []; seats = 1; first = 0 }
+
+abbrev putting : Attempt
+putting = new_attempt 0 (Put 42) 2
+
+abbrev queue_at_start : Core
+queue_at_start = record { words = 0 ∷ 2 ∷ 0 ∷ 0 ∷ 0 ∷ 0 ∷ []; views = seated one_queue 1; counts = Some no_counts }
+
+pub queue_words_at_start : start_word one_queue 1 ∷ start_word one_queue 2 ∷ start_word one_queue 4 ∷ [] ≡ 2 ∷ 0 ∷ 0 ∷ []
+queue_words_at_start = refl
+
+pub owned_at_start : own_of (view_at queue_at_start 0) 0 ≡ 4 ∷ 5 ∷ []
+owned_at_start = refl
+
+-- the length is 0
+abbrev length_read : View
+length_read = read_view (begun_view [] (view_at queue_at_start 0) 0 (Put 42) 2) putting (record { place = 2; word = 0 })
+
+pub read_so_far : length_read.attempt ≡ Some (record { object = 0; call = Put 42; expected = 2; reads = record { place = 2; word = 0 } ∷ []; writes = [] })
+read_so_far = refl
+
+-- the own block gets the length and the number
+abbrev after_write : Core
+after_write =
+    let one : Core = stored queue_at_start 4 1 0 (view_at queue_at_start 0) in
+    stored one 5 42 0 (view_at one 0)
+
+pub written_words : after_write.words ≡ 0 ∷ 2 ∷ 0 ∷ 0 ∷ 1 ∷ 42 ∷ []
+written_words = refl
+
+pub written_counts : after_write.counts ≡ Some (record { loads = 0; stores = 2; exchanges = 0 })
+written_counts = refl
+
+pub written_so_far : (written_view length_read (with_read (record { place = 2; word = 0 }) putting) (record { own = 0; value = 1 })).attempt
+    ≡ Some (record { object = 0; call = Put 42; expected = 2; reads = record { place = 2; word = 0 } ∷ []; writes = record { own = 0; value = 1 } ∷ [] })
+written_so_far = refl
+
+-- the new root has the tag 1 and names the block at place 4, and the seat owns the block that was there
+abbrev put_done : Core
+put_done = exchanged after_write 0 (if root_of after_write.words 0 == 2 then 16777220 else 2) 0 (decided_view true [] (entry_for one_queue [] 0 0 (Put 42)) (view_at after_write 0) putting 2 (record { own = 0; place = 2 } ∷ record { own = 1; place = 3 } ∷ []))
+
+pub put_words : put_done.words ≡ 0 ∷ 16777220 ∷ 0 ∷ 0 ∷ 1 ∷ 42 ∷ []
+put_words = refl
+
+pub put_owned : own_of (view_at put_done 0) 0 ≡ 2 ∷ 3 ∷ []
+put_owned = refl
+
+pub put_entry : entry_for one_queue [] 0 0 (Put 42) ≡ record { caller = 0; index = 1; object = 0; call = Put 42; reply = Done 1; tag = 1 }
+put_entry = refl

@@ -24,7 +24,8 @@ use std::marker::Model;
 
 /// All words of a layout in a plain vector, with the open attempt and the own places of each seat, and counts of the
 /// events. Clauses see the layout, the words, the seats and the counts. It has room for events where each count is below
-/// 2^63. Each event takes constant time, but that `decide` takes time that grows with the number of pairs.
+/// 2^63. Each event takes constant time, but for `begin`, whose time grows with the words that the seat's attempt before
+/// it read and wrote, and `decide`, whose time grows with the number of pairs.
 #[derive(Drop)]
 pub struct Bank {
     layout: Layout,
