@@ -1,0 +1,12 @@
+pub mod Counting
+pub mod Working
+pub mod Writes
+pub mod Readings
+pub mod Beginnings
+pub mod Decisions
+pub mod Collecting
+pub mod Idlings
+pub mod Joinings
+pub mod Running
+pub mod Banking
+pub mod Pairs

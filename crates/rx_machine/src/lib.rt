@@ -1,0 +1,14 @@
+//! Operations on shared objects as step machines: each step makes at most one memory event, over any port. What a step
+//! tells is `specs/Steps.antt`, and a machine as clauses see it `specs/Operations.antt`.
+#![tactic(auto)]
+
+mod any_shape;
+pub mod laws;
+mod machines;
+mod steps;
+#[cfg(test)]
+mod tests;
+mod works;
+
+pub use machines::Machine;
+pub use steps::Step;
