@@ -1,6 +1,6 @@
 -- Worked rows of names, ranks, times, keys, costs and demands.
 use Rattle.std.specs.Prelude.{ℕ, ◌≡◌, true, false, refl, List, [], ◌∷◌, codes, Some}
-use Rattle.rx_seq.specs.declared.kinds.Kind.TheVariants.{Cell, Queue}
+use Rattle.rx_seq.specs.declared.kinds.Kind.TheVariants.{Cell, Queue, Registers, List as Ordered}
 use Rattle.rx_seq.specs.declared.calls.Call.TheVariants.{Get, Add, Put, Take}
 use Rattle.rx_set.specs.declared.policies.Policy.{Policy}
 use Rattle.rx_set.specs.declared.policies.Policy.TheVariants.{Rm, Dm, Edf}
@@ -9,7 +9,7 @@ use Rattle.rx_set.specs.declared.items.Item.TheVariants.{Work, Op}
 use Rattle.rx_set.specs.declared.jobs.Job.{Job}
 use Rattle.rx_set.specs.declared.jobs.Key.{Key}
 use Rattle.rx_set.specs.Names.{is_name, has_repeat}
-use Rattle.rx_set.specs.System.{System, TaskRow, rank, release, due, key, is_below, ticks_of, item_at, attempt_cost, cost, retry_cost}
+use Rattle.rx_set.specs.System.{System, TaskRow, rank, release, due, key, is_below, ticks_of, item_at, attempt_by, attempt_cost, cost, retry_cost}
 
 abbrev task : ℕ → ℕ → ℕ → List Item → TaskRow
 task period deadline offset items = record { name = codes "t"; period = period; deadline = deadline; offset = offset; items = items }
@@ -99,6 +99,13 @@ cell_attempt = refl
 
 pub queue_attempt : attempt_cost (system Rm (x ∷ y ∷ [])) 1 ≡ 8
 queue_attempt = refl
+
+-- and 14 on a list or registers of four
+pub list_attempt : attempt_by Ordered 4 ≡ 14
+list_attempt = refl
+
+pub registers_attempt : attempt_by Registers 4 ≡ 14
+registers_attempt = refl
 
 -- 5 ticks of work, one attempt on the cell and one on the queue
 pub body_cost : cost (system Rm (x ∷ y ∷ [])) 1 ≡ 15

@@ -1,5 +1,5 @@
 -- A system of tasks and objects, as clauses see it: releases, deadlines, ranks, keys, demands and costs.
-use Rattle.std.specs.Prelude.{ℕ, zero, suc, ◌≡◌, ◌<◌, ◌+◌, ◌-◌, ◌*◌, ◌==◌, ◌&&◌, ◌||◌, nat_lt, Bool, if◌then◌else◌, List, [], ◌∷◌, ◌++◌, length, get_or, slice_get, count_by, sum_by, map, Option, Some, None}
+use Rattle.std.specs.Prelude.{ℕ, zero, suc, ◌+◌, ◌-◌, ◌*◌, ◌==◌, ◌&&◌, ◌||◌, nat_lt, Bool, if◌then◌else◌, List, [], ◌∷◌, ◌++◌, length, get_or, slice_get, count_by, sum_by, map, Option, Some, None}
 use Rattle.rx_seq.specs.declared.kinds.Kind.{Kind}
 use Rattle.rx_seq.specs.declared.kinds.Kind.TheVariants.{Cell, Queue, Registers, List as Ordered}
 use Rattle.rx_seq.specs.declared.kinds.Part.{Part}
@@ -53,10 +53,6 @@ part_of_row row = row.part
 -- the parts of the objects
 abbrev pub parts_of : System → List Part
 parts_of system = map part_of_row system.objects
-
--- each object is a cell
-abbrev pub AreCells : System → Type 0
-AreCells system = (object : ℕ) → object < length system.objects → (part_at (parts_of system) object).kind ≡ Cell
 
 -- the numbers 0 to n - 1
 abbrev pub numbers : ℕ → List ℕ
