@@ -1,20 +1,18 @@
 -- Objects and tasks that were read make a valid set.
-use Rattle.std.proofs.Common.{◌≡◌, ◌≤◌, ℕ, false, List, [], ◌∷◌, ◌++◌, length, map, refl, sym, ap, subst, ◌∙◌, arith, Some}
+use Rattle.std.proofs.Common.{◌≡◌, ◌≤◌, ℕ, false, List, [], ◌∷◌, ◌++◌, length, map, refl, arith, Some}
 use Rattle.std.specs.Prelude.{slice_get}
 use Rattle.std.specs.List.{All}
-use Rattle.std.proofs.lemmas.List.{length-map, map-append, get_or-map}
+use Rattle.std.proofs.lemmas.List.{length-map, map-append}
 use Rattle.std.proofs.lemmas.List.Elements.{All-push}
 use Rattle.std.proofs.lemmas.Option.{slice_get_within, get_or_from_slice_get}
-use Rattle.rx_seq.specs.declared.kinds.Part.{Part}
-use Rattle.rx_seq.specs.History.{no_part}
 use Rattle.rx_set.specs.declared.policies.Policy.{Policy}
 use Rattle.rx_set.specs.declared.objects.Object.{Object}
 use Rattle.rx_set.specs.declared.tasks.Task.{Task}
-use Rattle.rx_set.specs.System.{System, ObjectRow, TaskRow, DemandRow, no_task, part_of_row, AreCells}
-use Rattle.rx_set.specs.Valid.{IsValid, IsTaskRow}
+use Rattle.rx_set.specs.System.{ObjectRow, TaskRow, DemandRow, no_task}
+use Rattle.rx_set.specs.Valid.{IsValid, IsObjectRow, IsTaskRow}
 use Rattle.rx_set.specs.View.{object_row, row_of, system_of}
 use Rattle.rx_file.specs.Fields.{is_taken}
-use Rattle.rx_file.specs.Gives.{alone, AreRows, AreObjects, AreTasks, IsCellRow}
+use Rattle.rx_file.specs.Gives.{alone, AreRows, AreObjects, AreTasks}
 use Rattle.rx_file.proofs.Read.{repeat_next}
 
 -- one more row
@@ -59,17 +57,9 @@ valid policy objects tasks are_objects are_tasks few_objects some few = record {
   few_objects = simp length-map few_objects;
   few_demands = omega arith;
   tasks = λ task within. task_among policy (map object_row objects) (map row_of tasks) [] _ (are_tasks.good task no_task within);
-  objects = λ place row e. (at_place IsCellRow (map object_row objects) place row are_objects.good e).good;
+  objects = λ place row e. at_place IsObjectRow (map object_row objects) place row are_objects.good e;
   demands = λ place row e. absurd (none_at place row e);
   task_names = are_tasks.names;
   object_names = are_objects.names;
   one_demand = λ a b first within. absurd (omega arith);
 }
-
--- each object is a cell
-pub cells : (policy : Policy) (objects : List Object) (tasks : List Task) (system : System) → AreObjects (map object_row objects) → system ≡ system_of policy objects tasks → AreCells system
-cells policy objects tasks system are e = subst AreCells (sym e) (λ object within.
-    ap (λ (p : Part). p.kind) (get_or-map part_of_row (map object_row objects) object no_object no_part within) ∙ (are.good object no_object within).cell)
-  where
-    no_object : ObjectRow
-    no_object = record { name = []; part = no_part }

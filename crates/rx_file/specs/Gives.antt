@@ -1,10 +1,9 @@
 -- What a reading gives: what its definition says, unless there was no memory.
 use Rattle.std.specs.Prelude.{ℕ, ◌≡◌, ◌≢◌, ◌≤◌, List, [], map, false, None, Result, Ok, Err}
 use Rattle.std.specs.List.{All}
-use Rattle.rx_seq.specs.declared.kinds.Kind.TheVariants.{Cell}
 use Rattle.rx_set.specs.declared.policies.Policy.TheVariants.{Rm}
 use Rattle.rx_set.specs.Names.{has_repeat}
-use Rattle.rx_set.specs.System.{ObjectRow, TaskRow, System, AreCells}
+use Rattle.rx_set.specs.System.{ObjectRow, TaskRow, System}
 use Rattle.rx_set.specs.Valid.{IsObjectRow, IsTaskRow, object_name, task_name}
 use Rattle.rx_file.specs.declared.faults.FileFault.{FileFault}
 use Rattle.rx_file.specs.declared.faults.FileFault.TheVariants.{NoMemory}
@@ -56,18 +55,8 @@ pub record AreRows {X : Type 0} (IsGood : X → Type 0) (name_of : X → List �
   pub good : All IsGood rows
   pub names : has_repeat (map name_of rows) ≡ false
 
--- an object of this version is a cell
-pub record IsCellRow (row : ObjectRow) : Type 0 where
-  pub good : IsObjectRow row
-  pub cell : row.part.kind ≡ Cell
-
 abbrev pub AreObjects : List ObjectRow → Type 0
-AreObjects rows = AreRows IsCellRow object_name rows
-
--- each object of a set that was read is a cell
-abbrev pub HasCells : Result System FileFault → Type 0
-HasCells (Ok set) = AreCells set
-HasCells (Err fault) = Unit {0}
+AreObjects rows = AreRows IsObjectRow object_name rows
 
 abbrev pub AreTasks : List ObjectRow → List TaskRow → Type 0
 AreTasks objects rows = AreRows (IsTaskRow (alone objects)) task_name rows

@@ -3,7 +3,7 @@ use Rattle.std.specs.Prelude.{◌+◌, if◌then◌else◌, List, [], ◌∷◌,
 use Rattle.std.specs.Str.{bytes_eq}
 use Rattle.toml.specs.Data.{Data, Items, Members, as_table}
 use Rattle.rx_seq.specs.declared.kinds.Kind.{Kind}
-use Rattle.rx_seq.specs.declared.kinds.Kind.TheVariants.{Cell}
+use Rattle.rx_seq.specs.declared.kinds.Kind.TheVariants.{Cell, Queue, Registers, List as Ordered}
 use Rattle.rx_seq.specs.declared.kinds.Part.{Part}
 use Rattle.rx_set.specs.System.{ObjectRow}
 use Rattle.rx_set.specs.Valid.{object_name}
@@ -13,24 +13,37 @@ use Rattle.rx_file.specs.declared.faults.Label.TheVariants as label
 use Rattle.rx_file.specs.declared.faults.FileFault.{FileFault}
 use Rattle.rx_file.specs.declared.places.Place.{Place}
 use Rattle.rx_file.specs.Steps.{◌>>=◌, ◌>>◌}
-use Rattle.rx_file.specs.Fields.{field, range, text_at, name_at, is_new, no_key, only_keys}
+use Rattle.rx_file.specs.Fields.{field, range, text_at, name_at, is_new, no_key, number_at, only_keys}
 use Rattle.rx_file.specs.Arrays.{all_of}
 
--- the kind that a word names. Cells are the one kind of this version; the words of the others are out of range
+-- the kind that a word names
 abbrev pub kind_of : List ℕ → Option Kind
-kind_of word = if bytes_eq word (codes "cell") then Some Cell else None
+kind_of word =
+    if bytes_eq word (codes "cell") then Some Cell
+    else (if bytes_eq word (codes "queue") then Some Queue
+    else (if bytes_eq word (codes "list") then Some Ordered
+    else (if bytes_eq word (codes "registers") then Some Registers else None)))
 
 unfoldable pub kind_at : Place → Members → Result Kind FileFault
 kind_at place row = do
   word ← text_at place label.Kind row
   ok_or (kind_of word) (range place label.Kind)
 
--- the kind and the capacity. A cell has room for one number, and no `capacity`
+-- the capacity of an object of this kind. A cell has room for one number, and no `capacity`
+unfoldable pub cap_at : Place → Kind → Members → Result ℕ FileFault
+cap_at place Cell row = do
+  no_key place label.Capacity row
+  Ok 1
+cap_at place Queue row = number_at place label.Capacity 1 64 row
+cap_at place Ordered row = number_at place label.Capacity 1 64 row
+cap_at place Registers row = number_at place label.Capacity 1 16 row
+
+-- the kind and the capacity
 unfoldable pub part_of_table : Place → Members → Result Part FileFault
 part_of_table place row = do
   kind ← kind_at place row
-  no_key place label.Capacity row
-  Ok (record { kind = kind; cap = 1 })
+  cap ← cap_at place kind row
+  Ok (record { kind = kind; cap = cap })
 
 abbrev pub object_labels : List Label
 object_labels = label.Name ∷ label.Kind ∷ label.Capacity ∷ []

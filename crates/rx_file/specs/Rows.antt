@@ -1,8 +1,9 @@
 -- Worked files, items and numbers.
-use Rattle.std.specs.Prelude.{◌≡◌, [], ◌∷◌, codes, Some, None, Ok, Err, refl}
+use Rattle.std.specs.Prelude.{ℕ, ◌≡◌, [], ◌∷◌, codes, Some, None, Ok, Err, refl}
 use Rattle.rx_set.specs.declared.policies.Policy.TheVariants.{Rm}
-use Rattle.rx_seq.specs.declared.kinds.Kind.TheVariants.{Cell}
-use Rattle.rx_seq.specs.declared.calls.Call.TheVariants.{Get, Set, Add, Swap}
+use Rattle.rx_seq.specs.declared.kinds.Kind.TheVariants.{Cell, Queue, Registers, List as Ordered}
+use Rattle.rx_seq.specs.declared.calls.Row.{Row}
+use Rattle.rx_seq.specs.declared.calls.Call.TheVariants.{Get, Set, Add, Swap, Put, Take, Insert, Remove, Has, Read, Shift, Multi}
 use Rattle.rx_set.specs.declared.items.Item.TheVariants.{Work, Op}
 use Rattle.rx_file.specs.declared.faults.Section.TheVariants as section
 use Rattle.rx_file.specs.declared.faults.Label.TheVariants as label
@@ -11,6 +12,10 @@ use Rattle.rx_file.specs.Texts.{number_of, word_number, words_of}
 use Rattle.rx_file.specs.Shapes.{shape_of, Work as WorkShape, On}
 use Rattle.rx_file.specs.SetOf.{set_of}
 use Rattle.rx_file.specs.OnLiterals.{file_on_literals}
+
+-- a row of a transaction
+abbrev pub row : ℕ → ℕ → ℕ → Row
+row i old new = record { i = i; old = old; new = new }
 
 -- two tasks
 pub two_tasks : set_of (codes "task = [{name=\"a\", period=4, offset=1, body=[\"work 1\"]}, {name=\"b\", period=8, body=[\"work 3\"]}]") ≡ Ok (record {
@@ -163,14 +168,45 @@ pub no_kind : set_of (codes "object = [{name=\"c\"}]\ntask = [1]") ≡ Err (Fiel
 unfolding file_on_literals
 no_kind = refl
 
--- a kind of a later version, and a word that is no kind
-pub queue_kind : set_of (codes "object = [{name=\"q\", kind=\"queue\", capacity=4}]\ntask = [1]") ≡ Err (Range section.Object 1 label.Kind)
-unfolding file_on_literals
-queue_kind = refl
-
-pub stack_kind : set_of (codes "object = [{name=\"s\", kind=\"stack\"}]\ntask = [1]") ≡ Err (Range section.Object 1 label.Kind)
+-- a word that is no kind
+pub stack_kind : set_of (codes "object = [{name=\"s\", kind=\"stack\", capacity=4}]\ntask = [1]") ≡ Err (Range section.Object 1 label.Kind)
 unfolding file_on_literals
 stack_kind = refl
+
+-- an object of each kind
+pub each_kind : set_of (codes "object = [{name=\"c\", kind=\"cell\"}, {name=\"q\", kind=\"queue\", capacity=64}, {name=\"l\", kind=\"list\", capacity=1}, {name=\"r\", kind=\"registers\", capacity=16}]\ntask = [{name=\"t\", period=9, body=[\"work 1\"]}]") ≡ Ok (record {
+  policy = Rm;
+  objects =
+      record { name = codes "c"; part = record { kind = Cell; cap = 1 } }
+      ∷ record { name = codes "q"; part = record { kind = Queue; cap = 64 } }
+      ∷ record { name = codes "l"; part = record { kind = Ordered; cap = 1 } }
+      ∷ record { name = codes "r"; part = record { kind = Registers; cap = 16 } } ∷ [];
+  tasks = record { name = codes "t"; period = 9; deadline = 9; offset = 0; items = Work 1 ∷ [] } ∷ [];
+  demands = [];
+})
+unfolding file_on_literals
+each_kind = refl
+
+-- a queue, a list and registers must have a capacity in its range
+pub no_capacity : set_of (codes "object = [{name=\"q\", kind=\"queue\"}]\ntask = [1]") ≡ Err (Field section.Object 1 label.Capacity)
+unfolding file_on_literals
+no_capacity = refl
+
+pub text_capacity : set_of (codes "object = [{name=\"l\", kind=\"list\", capacity=\"4\"}]\ntask = [1]") ≡ Err (Field section.Object 1 label.Capacity)
+unfolding file_on_literals
+text_capacity = refl
+
+pub zero_capacity : set_of (codes "object = [{name=\"l\", kind=\"list\", capacity=0}]\ntask = [1]") ≡ Err (Range section.Object 1 label.Capacity)
+unfolding file_on_literals
+zero_capacity = refl
+
+pub queue_capacity : set_of (codes "object = [{name=\"q\", kind=\"queue\", capacity=65}]\ntask = [1]") ≡ Err (Range section.Object 1 label.Capacity)
+unfolding file_on_literals
+queue_capacity = refl
+
+pub registers_capacity : set_of (codes "object = [{name=\"r\", kind=\"registers\", capacity=17}]\ntask = [1]") ≡ Err (Range section.Object 1 label.Capacity)
+unfolding file_on_literals
+registers_capacity = refl
 
 -- a cell with a capacity
 pub cell_capacity : set_of (codes "object = [{name=\"c\", kind=\"cell\", capacity=1}]\ntask = [1]") ≡ Err (Field section.Object 1 label.Capacity)
@@ -192,6 +228,20 @@ pub misfit : set_of (codes "object = [{name=\"c\", kind=\"cell\"}]\ntask = [{nam
 unfolding file_on_literals
 misfit = refl
 
+-- a call of another kind
+pub other_kind : set_of (codes "object = [{name=\"q\", kind=\"queue\", capacity=4}]\ntask = [{name=\"t\", period=9, body=[\"put q 1\", \"get q\"]}]") ≡ Err (Misfit 1 2)
+unfolding file_on_literals
+other_kind = refl
+
+-- a register that is not there, and one that is named twice
+pub far_register : set_of (codes "object = [{name=\"r\", kind=\"registers\", capacity=4}]\ntask = [{name=\"t\", period=9, body=[\"read r 4\"]}]") ≡ Err (Misfit 1 1)
+unfolding file_on_literals
+far_register = refl
+
+pub register_twice : set_of (codes "object = [{name=\"r\", kind=\"registers\", capacity=4}]\ntask = [{name=\"t\", period=9, body=[\"multi r 1 0 5 1 0 6\"]}]") ≡ Err (Misfit 1 1)
+unfolding file_on_literals
+register_twice = refl
+
 -- the shape comes before the object's name
 pub shape_first : set_of (codes "task = [{name=\"t\", period=9, body=[\"add nosuch x\"]}]") ≡ Err (Item 1 1)
 unfolding file_on_literals
@@ -209,6 +259,52 @@ spaced_swap = refl
 
 pub tab_name : shape_of (words_of (codes "get c\t")) ≡ Some (On (codes "c\t") Get)
 tab_name = refl
+
+-- the shapes of calls on queues, lists and registers
+pub put_item : shape_of (words_of (codes "put q 4294967295")) ≡ Some (On (codes "q") (Put 4294967295))
+put_item = refl
+
+pub take_item : shape_of (words_of (codes "take q")) ≡ Some (On (codes "q") Take)
+take_item = refl
+
+pub insert_item : shape_of (words_of (codes "insert l 3")) ≡ Some (On (codes "l") (Insert 3))
+insert_item = refl
+
+pub remove_item : shape_of (words_of (codes "remove l 3")) ≡ Some (On (codes "l") (Remove 3))
+remove_item = refl
+
+pub has_item : shape_of (words_of (codes "has l 3")) ≡ Some (On (codes "l") (Has 3))
+has_item = refl
+
+pub read_item : shape_of (words_of (codes "read r 2")) ≡ Some (On (codes "r") (Read 2))
+read_item = refl
+
+-- from one register to another, and then how much
+pub shift_item : shape_of (words_of (codes "shift r 3 0 8")) ≡ Some (On (codes "r") (Shift 3 0 8))
+shift_item = refl
+
+-- a register, its old value and its new one, up to four times; zeros stand for the rows that are left out
+pub multi_item : shape_of (words_of (codes "multi r 7 8 9")) ≡ Some (On (codes "r") (Multi 1 (row 7 8 9 ∷ row 0 0 0 ∷ row 0 0 0 ∷ row 0 0 0 ∷ [])))
+multi_item = refl
+
+pub two_rows : shape_of (words_of (codes "multi r 1 2 3 4 5 6")) ≡ Some (On (codes "r") (Multi 2 (row 1 2 3 ∷ row 4 5 6 ∷ row 0 0 0 ∷ row 0 0 0 ∷ [])))
+two_rows = refl
+
+pub three_rows : shape_of (words_of (codes "multi r 1 2 3 4 5 6 7 8 9")) ≡ Some (On (codes "r") (Multi 3 (row 1 2 3 ∷ row 4 5 6 ∷ row 7 8 9 ∷ row 0 0 0 ∷ [])))
+three_rows = refl
+
+pub four_rows : shape_of (words_of (codes "multi r 0 0 5 1 0 6 2 0 7 3 0 8")) ≡ Some (On (codes "r") (Multi 4 (row 0 0 5 ∷ row 1 0 6 ∷ row 2 0 7 ∷ row 3 0 8 ∷ [])))
+four_rows = refl
+
+-- no row, a row of two numbers, a fifth row
+pub multi_no_rows : shape_of (words_of (codes "multi r")) ≡ None
+multi_no_rows = refl
+
+pub short_row : shape_of (words_of (codes "multi r 0 0 5 1 0")) ≡ None
+short_row = refl
+
+pub five_rows : shape_of (words_of (codes "multi r 0 0 0 1 0 0 2 0 0 3 0 0 4 0 0")) ≡ None
+five_rows = refl
 
 -- too few numbers, too many, and a number word that is none
 pub short_swap : shape_of (words_of (codes "swap c 1")) ≡ None

@@ -1,5 +1,5 @@
 -- The set of a task file: the order of checks, of which the first that fails gives the fault. The definitions are
--- those of files whose keys at the top are `object` and `task` and whose objects are cells.
+-- those of files whose keys at the top are `object` and `task`.
 use Rattle.std.specs.Prelude.{ℕ, ◌+◌, ◌==◌, ◌&&◌, nat_le, if◌then◌else◌, List, [], ◌∷◌, length, map, None, Result, Ok, Err, ok_or}
 use Rattle.std.specs.Str.{is_utf8}
 use Rattle.toml.specs.Data.{Data, Items, Members, as_table}

@@ -1,16 +1,16 @@
 // The rows of `object`.
 ghost use Rattle.std.specs.Prelude.{◌≡◌, ◌≤◌, ◌<◌, false, length, map, IfOk, IfSome};
 ghost use Rattle.toml.specs.View.{view, items_view, table_view};
-ghost use Rattle.rx_seq.specs.Table.{IsPart};
-ghost use Rattle.rx_set.specs.Valid.{object_name};
+ghost use Rattle.rx_seq.specs.Table.{IsCap, IsPart};
+ghost use Rattle.rx_set.specs.Valid.{IsObjectRow, object_name};
 ghost use Rattle.rx_set.specs.View.{object_row};
 ghost use Rattle.rx_file.specs.Fields.{is_taken};
-ghost use Rattle.rx_file.specs.Objects.{kind_of, kind_at, part_of_table, object_of_table, object_of_value, objects_of};
+ghost use Rattle.rx_file.specs.Objects.{kind_of, kind_at, cap_at, part_of_table, object_of_table, object_of_value, objects_of};
 ghost use Rattle.rx_file.specs.Items.{object_of};
-ghost use Rattle.rx_file.specs.Gives.{Shows, Gives, AreObjects, IsCellRow};
+ghost use Rattle.rx_file.specs.Gives.{Shows, Gives, AreObjects};
 
 use crate::faults::{FileFault, Label, Section};
-use crate::fields::{name_at, no_key, only_keys, text_at};
+use crate::fields::{name_at, no_key, number_at, only_keys, text_at};
 use crate::places::Place;
 use rx_seq::{Kind, Part};
 use rx_set::{Name, Object};
@@ -39,12 +39,18 @@ fn is_among(objects: &[Object], name: &Name) -> bool
     find_object(objects, name.as_str().as_bytes()).is_some()
 }
 
-/// The kind that a word names: cells alone in this version.
-fn kind_of(word: &str) -> Option<Kind>
+/// The kind that a word names.
+fn kind_of(word: &[u8]) -> Option<Kind>
     ensures { result ≡ kind_of word.now }
 {
-    if word.as_bytes() == b"cell".as_slice() {
+    if word == b"cell".as_slice() {
         Some(Kind::Cell)
+    } else if word == b"queue".as_slice() {
+        Some(Kind::Queue)
+    } else if word == b"list".as_slice() {
+        Some(Kind::List)
+    } else if word == b"registers".as_slice() {
+        Some(Kind::Registers)
     } else {
         None
     }
@@ -53,11 +59,27 @@ fn kind_of(word: &str) -> Option<Kind>
 /// The kind at `kind`.
 #[tactic(auto, unfolding(crate::specs::Objects::kind_at))]
 fn kind_at(place: Place, row: &Table) -> Result<Kind, FileFault>
-    ensures value { result ≡ kind_at place (table_view row.now) }
-    ensures kind { IfOk result (λ kind. kind ≡ Kind.Cell) }
+    ensures { result ≡ kind_at place (table_view row.now) }
 {
     let word = text_at(place, Label::Kind, row)?;
-    kind_of(word).ok_or(place.range(Label::Kind))
+    kind_of(word.as_bytes()).ok_or(place.range(Label::Kind))
+}
+
+/// The capacity of an object of this kind. A cell has room for one number, and must have no `capacity`.
+#[tactic(auto, unfolding(crate::specs::Objects::cap_at))]
+fn cap_at(place: Place, kind: Kind, row: &Table) -> Result<u64, FileFault>
+    ensures value { result ≡ cap_at place kind (table_view row.now) }
+    ensures cap { IfOk result (IsCap kind) }
+    ensures bound { IfOk result (λ cap. cap ≤ 64) }
+{
+    match kind {
+        Kind::Cell => {
+            no_key(place, Label::Capacity, row)?;
+            Ok(1)
+        }
+        Kind::Queue | Kind::List => number_at(place, Label::Capacity, 1, 64, row),
+        Kind::Registers => number_at(place, Label::Capacity, 1, 16, row),
+    }
 }
 
 /// The kind and the capacity of the object of a table.
@@ -65,11 +87,13 @@ fn kind_at(place: Place, row: &Table) -> Result<Kind, FileFault>
 fn part_of_table(place: Place, row: &Table) -> Result<Part, FileFault>
     ensures value { result ≡ part_of_table place (table_view row.now) }
     ensures part { IfOk result IsPart }
-    ensures cell { IfOk result (λ part. part.kind ≡ Kind.Cell) }
 {
     let kind = kind_at(place, row)?;
-    no_key(place, Label::Capacity, row)?;
-    Ok(Part { kind, cap: 1 })
+    let cap = cap_at(place, kind, row)?;
+    Ok(Part {
+        kind,
+        cap: cap as u32,
+    })
 }
 
 /// The object of a table that comes after these objects.
@@ -77,7 +101,7 @@ fn part_of_table(place: Place, row: &Table) -> Result<Part, FileFault>
 fn read_table(place: Place, before: &[Object], row: &Table) -> Result<Object, FileFault>
     requires { length before.now ≤ 16 }
     ensures object { Shows object_row (object_of_table place (map object_row before.now) (table_view row.now)) result }
-    ensures good { IfOk result (λ object. IsCellRow (object_row object)) }
+    ensures good { IfOk result (λ object. IsObjectRow (object_row object)) }
     ensures new { IfOk result (λ object. is_taken (map object_name (map object_row before.now)) object.name.bytes ≡ false) }
 {
     let name = name_at(place, row)?;
@@ -94,7 +118,7 @@ fn read_table(place: Place, before: &[Object], row: &Table) -> Result<Object, Fi
 fn read_row(before: &[Object], value: &Value) -> Result<Object, FileFault>
     requires { length before.now < 16 }
     ensures object { Shows object_row (object_of_value (map object_row before.now) (view value.now)) result }
-    ensures good { IfOk result (λ object. IsCellRow (object_row object)) }
+    ensures good { IfOk result (λ object. IsObjectRow (object_row object)) }
     ensures new { IfOk result (λ object. is_taken (map object_name (map object_row before.now)) object.name.bytes ≡ false) }
 {
     let place = Place {

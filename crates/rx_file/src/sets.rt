@@ -3,7 +3,7 @@ ghost use Rattle.std.specs.Prelude.{◌≡◌, ◌≤◌, length, IfOk};
 ghost use Rattle.toml.specs.View.{items_view, table_view};
 ghost use Rattle.rx_file.specs.Arrays.{up_to};
 ghost use Rattle.rx_file.specs.SetOf.{object_rows, task_rows, set_of_file, file_of, set_of};
-ghost use Rattle.rx_file.specs.Gives.{Shows, Gives, SetGives, HasCells};
+ghost use Rattle.rx_file.specs.Gives.{Shows, Gives, SetGives};
 
 use crate::faults::{FileFault, Label, Section};
 use crate::fields::{array_at, array_or_empty, only_keys};
@@ -56,8 +56,7 @@ fn task_rows<'a>(file: &'a Table) -> Result<&'a [Value], FileFault>
 /// The set of a document.
 #[tactic(auto, unfolding(crate::specs::SetOf::set_of_file))]
 fn read_file(alloc: Global, file: &Table) -> Result<TaskSet, FileFault>
-    ensures set { Gives (λ set. set) (set_of_file (table_view file.now)) result }
-    ensures cells { HasCells result }
+    ensures { Gives (λ set. set) (set_of_file (table_view file.now)) result }
 {
     let of_objects = object_rows(file)?;
     let of_tasks = task_rows(file)?;
@@ -93,8 +92,8 @@ fn read_document(alloc: Global, bytes: &[u8]) -> Result<Table, FileFault>
 /// `object` is an array of at most 16 tables, and empty where it is left out. Each has
 ///
 /// - `name`, a string: 1 to 16 ASCII letters, digits and `_`, the first a letter, and not the name of an earlier object;
-/// - `kind`, the string `cell`. The kinds `queue`, `list` and `registers` are out of range in this version. A cell has
-///   no `capacity`.
+/// - `kind`, the string `cell`, `queue`, `list` or `registers`;
+/// - `capacity`, an integer from 1 to 64 for a queue or a list and from 1 to 16 for registers. A cell must have none.
 ///
 /// `task` is an array of 1 to 32 tables. Each has
 ///
@@ -102,8 +101,10 @@ fn read_document(alloc: Global, bytes: &[u8]) -> Result<Table, FileFault>
 /// - `period`, an integer from 1 to 1,000,000;
 /// - `deadline`, an integer from 1 to the period, which is the period where it is left out;
 /// - `offset`, an integer from 0 to 1,000,000, which is 0 where it is left out;
-/// - `body`, an array of 1 to 64 strings, the items: `work n`, with n from 1 to 1,000,000, or a call on the object o,
-///   `get o`, `set o v`, `add o v` or `swap o x y`, whose numbers are at most 16,777,215. Numbers have up to 10 digits.
+/// - `body`, an array of 1 to 64 strings, the items: `work n`, with n from 1 to 1,000,000, or a call on the object o that
+///   fits it. The calls are `get o`, `set o v`, `add o v` and `swap o x y` on a cell, `put o v` and `take o` on a queue,
+///   `insert o k`, `remove o k` and `has o k` on a list, and `read o i`, `shift o f t n` and `multi o`, which 1 to 4
+///   rows `i x y` follow, on registers. Numbers have up to 10 digits, and at most 32 bits.
 ///
 /// The policy is rate monotonic. The two arrays and the other keys at the top are looked at first, then the rows of
 /// `object` and the rows of `task` in order, each key by key in the order of these lists, then for other keys, then item
@@ -112,8 +113,7 @@ fn read_document(alloc: Global, bytes: &[u8]) -> Result<Table, FileFault>
 #[tactic(auto, unfolding(crate::specs::SetOf::set_of))]
 pub fn read_set(alloc: Global, bytes: &[u8]) -> Result<TaskSet, FileFault>
     requires { length bytes.now ≤ 1048576 }
-    ensures set { SetGives (set_of bytes.now) result }
-    ensures cells { HasCells result }
+    ensures { SetGives (set_of bytes.now) result }
 {
     let file = read_document(alloc, bytes)?;
     read_file(alloc, &file)

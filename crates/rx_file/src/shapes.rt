@@ -1,15 +1,15 @@
 // The shapes of items, by words.
-ghost use Rattle.std.specs.Prelude.{◌≡◌, option_map, IfSome, MatchOption, Some};
+ghost use Rattle.std.specs.Prelude.{◌≡◌, ◌<◌, get_or, option_map, IfSome, MatchOption, Some};
 ghost use Rattle.rx_file.specs.Texts.{words_of};
-ghost use Rattle.rx_file.specs.Shapes.{word_of, verb_of, call_of, call_with, numbers_of, work_of, operation_of, shape_of};
+ghost use Rattle.rx_file.specs.Shapes.{word_of, verb_of, row_of, row_count, multi_of, call_of, call_with, numbers_of, work_of, operation_of, shape_of};
 ghost use Rattle.rx_file.specs.Gives.{HaveNoCall, HasTicks, shape_view};
 
 use crate::texts::{next_word, word_number};
 use arrayvec::ArrayVec;
-use rx_seq::Call;
+use rx_seq::{Call, Row};
 
-/// The most numbers that stand after an object's name.
-const MOST_NUMBERS: usize = 2;
+/// The most numbers that stand after an object's name: three for each of four registers.
+const MOST_NUMBERS: usize = 12;
 
 /// A call, without its numbers.
 #[derive(Clone, Copy)]
@@ -18,7 +18,31 @@ pub(crate) enum Verb {
     Set,
     Add,
     Swap,
+    Put,
+    Take,
+    Insert,
+    Remove,
+    Has,
+    Read,
+    Shift,
+    Multi,
 }
+
+/// The calls in the order in which words are compared with them.
+const VERBS: [Verb; 12] = [
+    Verb::Get,
+    Verb::Set,
+    Verb::Add,
+    Verb::Swap,
+    Verb::Put,
+    Verb::Take,
+    Verb::Insert,
+    Verb::Remove,
+    Verb::Has,
+    Verb::Read,
+    Verb::Shift,
+    Verb::Multi,
+];
 
 /// What the words of an item spell, whatever objects there are.
 #[derive(Clone, Copy)]
@@ -39,6 +63,14 @@ impl Verb {
             Verb::Set => "set",
             Verb::Add => "add",
             Verb::Swap => "swap",
+            Verb::Put => "put",
+            Verb::Take => "take",
+            Verb::Insert => "insert",
+            Verb::Remove => "remove",
+            Verb::Has => "has",
+            Verb::Read => "read",
+            Verb::Shift => "shift",
+            Verb::Multi => "multi",
         }
     }
 }
@@ -47,12 +79,63 @@ impl Verb {
 fn verb_of(word: &[u8]) -> Option<Verb>
     ensures { result ≡ verb_of word.now }
 {
-    for verb in [Verb::Get, Verb::Set, Verb::Add, Verb::Swap] {
+    for verb in VERBS {
         if verb.word().as_bytes() == word {
             return Some(verb);
         }
     }
     None
+}
+
+/// A number of these, and 0 past their end.
+fn number_or_zero(numbers: &[u32], place: usize) -> u32
+    ensures { result ≡ get_or numbers.now place 0 }
+{
+    match numbers.get(place) {
+        Some(number) => *number,
+        None => 0,
+    }
+}
+
+/// The row of a transaction at a place from 0, three numbers to a row: zeros after the last one.
+fn row_of(numbers: &[u32], place: usize) -> Row
+    requires { place < 4 }
+    ensures { result ≡ row_of numbers.now place }
+{
+    Row {
+        i: number_or_zero(numbers, 3 * place),
+        old: number_or_zero(numbers, 3 * place + 1),
+        new: number_or_zero(numbers, 3 * place + 2),
+    }
+}
+
+/// How many rows so many numbers make.
+fn row_count(numbers: usize) -> Option<u32>
+    ensures { result ≡ row_count numbers }
+{
+    match numbers {
+        3 => Some(1),
+        6 => Some(2),
+        9 => Some(3),
+        12 => Some(4),
+        _ => None,
+    }
+}
+
+/// The transaction of 1 to 4 rows.
+fn multi_of(numbers: &[u32]) -> Option<Call>
+    ensures { result ≡ multi_of numbers.now }
+{
+    let count = row_count(numbers.len())?;
+    Some(Call::Multi {
+        count,
+        rows: [
+            row_of(numbers, 0),
+            row_of(numbers, 1),
+            row_of(numbers, 2),
+            row_of(numbers, 3),
+        ],
+    })
 }
 
 /// The call with these numbers.
@@ -67,6 +150,18 @@ fn call_of(verb: Verb, numbers: &[u32]) -> Option<Call>
             old: *old,
             new: *new,
         }),
+        (Verb::Put, [v]) => Some(Call::Put { v: *v }),
+        (Verb::Take, []) => Some(Call::Take),
+        (Verb::Insert, [k]) => Some(Call::Insert { k: *k }),
+        (Verb::Remove, [k]) => Some(Call::Remove { k: *k }),
+        (Verb::Has, [k]) => Some(Call::Has { k: *k }),
+        (Verb::Read, [i]) => Some(Call::Read { i: *i }),
+        (Verb::Shift, [from, to, n]) => Some(Call::Shift {
+            from: *from,
+            to: *to,
+            n: *n,
+        }),
+        (Verb::Multi, _) => multi_of(numbers),
         _ => None,
     }
 }

@@ -1,5 +1,5 @@
 use super::{FileFault, Label, Section, number_of, read_set};
-use rx_seq::Call;
+use rx_seq::{Call, Kind, Part, Row};
 use rx_set::Item;
 use std::alloc::Global;
 use std::test::Fail;
@@ -62,8 +62,28 @@ fn first_faults(rt: HostRuntime) -> Result<(), Fail> {
             field(object, 1, Label::Kind),
         ),
         (
-            "[[task]]\n[[object]]\nname = 'c'\nkind = 'list'\ncapacity = 4",
+            "[[task]]\n[[object]]\nname = 'c'\nkind = 'stack'\ncapacity = 4",
             range(object, 1, Label::Kind),
+        ),
+        (
+            "[[task]]\n[[object]]\nname = 'q'\nkind = 'queue'",
+            field(object, 1, Label::Capacity),
+        ),
+        (
+            "[[task]]\n[[object]]\nname = 'q'\nkind = 'queue'\ncapacity = 1.0",
+            field(object, 1, Label::Capacity),
+        ),
+        (
+            "[[task]]\n[[object]]\nname = 'q'\nkind = 'queue'\ncapacity = 65",
+            range(object, 1, Label::Capacity),
+        ),
+        (
+            "[[task]]\n[[object]]\nname = 'l'\nkind = 'list'\ncapacity = 0",
+            range(object, 1, Label::Capacity),
+        ),
+        (
+            "[[task]]\n[[object]]\nname = 'r'\nkind = 'registers'\ncapacity = 17",
+            range(object, 1, Label::Capacity),
         ),
         (
             "[[task]]\n[[object]]\nname = 'c'\nkind = 'cell'\ncapacity = 1",
@@ -140,7 +160,7 @@ fn first_faults(rt: HostRuntime) -> Result<(), Fail> {
         ),
         (
             "[[object]]\nname = 'c'\nkind = 'cell'\n[[task]]\nname = 'a'\nperiod = 9\nbody = ['put c 1']",
-            FileFault::Item { task: 1, item: 1 },
+            FileFault::Misfit { task: 1, item: 1 },
         ),
         (
             "[[task]]\nname = 'a'\nperiod = 1\nbody = ['work 1000000']\n[[task]]\nname = 'a'",
@@ -149,10 +169,136 @@ fn first_faults(rt: HostRuntime) -> Result<(), Fail> {
                 row: 2,
             },
         ),
+        (
+            "[[task]]\nname = 'a'\nperiod = 9\nbody = ['read nosuch 99', 'add nosuch x']",
+            FileFault::Unknown { task: 1, item: 1 },
+        ),
+        (
+            "[[task]]\nname = 'a'\nperiod = 9\nbody = ['add nosuch x']",
+            FileFault::Item { task: 1, item: 1 },
+        ),
+        (
+            "[[object]]\nname = 'r'\nkind = 'registers'\ncapacity = 4\n[[task]]\nname = 'a'\nperiod = 9\nbody = ['read r 3', 'read r 4']",
+            FileFault::Misfit { task: 1, item: 2 },
+        ),
+        (
+            "[[object]]\nname = 'r'\nkind = 'registers'\ncapacity = 4\n[[task]]\nname = 'a'\nperiod = 9\nbody = ['multi r 1 0 5 1 0 6']",
+            FileFault::Misfit { task: 1, item: 1 },
+        ),
+        (
+            "[[object]]\nname = 'r'\nkind = 'registers'\ncapacity = 4\n[[task]]\nname = 'a'\nperiod = 9\nbody = ['shift r 2 2 0']",
+            FileFault::Misfit { task: 1, item: 1 },
+        ),
     ];
     for (text, expected) in cases {
         assert_eq!(rt; fault_of(rt.alloc(), text), Some(expected));
     }
+    Ok(())
+}
+
+fn op(object: u32, call: Call) -> Item {
+    Item::Op { object, call }
+}
+
+fn row(i: u32, old: u32, new: u32) -> Row {
+    Row { i, old, new }
+}
+
+#[test]
+fn each_kind(rt: HostRuntime) -> Result<(), Fail> {
+    let text = "[[object]]\nname = 'c'\nkind = 'cell'\n\
+        [[object]]\nname = 'q'\nkind = 'queue'\ncapacity = 64\n\
+        [[object]]\nname = 'l'\nkind = 'list'\ncapacity = 1\n\
+        [[object]]\nname = 'r'\nkind = 'registers'\ncapacity = 16\n\
+        [[task]]\nname = 't'\nperiod = 9\nbody = ['get c', 'set c 1', 'add c 2', 'swap c 3 4', \
+        'put q 4294967295', 'take q', 'insert l 5', 'remove l 6', 'has l 7', 'read r 15', 'shift r 3 0 8', \
+        'multi r 15 8 9', 'multi r 1 2 3 4 5 6', 'multi r 1 2 3 4 5 6 7 8 9', \
+        ' multi  r 0 0 5 1 0 6 2 0 7 3 0 0008 ']\n";
+    let Ok(set) = read_set(rt.alloc(), text.as_bytes()) else {
+        return Err(Fail::from("no set"));
+    };
+    let objects = set.objects();
+    assert_eq!(rt; objects.len(), 4);
+    assert_eq!(rt;
+        objects[0].part,
+        Part {
+            kind: Kind::Cell,
+            cap: 1
+        }
+    );
+    assert_eq!(rt;
+        objects[1].part,
+        Part {
+            kind: Kind::Queue,
+            cap: 64
+        }
+    );
+    assert_eq!(rt;
+        objects[2].part,
+        Part {
+            kind: Kind::List,
+            cap: 1
+        }
+    );
+    assert_eq!(rt;
+        objects[3].part,
+        Part {
+            kind: Kind::Registers,
+            cap: 16
+        }
+    );
+    let none = Row::default();
+    let expected = [
+        op(0, Call::Get),
+        op(0, Call::Set { v: 1 }),
+        op(0, Call::Add { v: 2 }),
+        op(0, Call::Swap { old: 3, new: 4 }),
+        op(1, Call::Put { v: 4_294_967_295 }),
+        op(1, Call::Take),
+        op(2, Call::Insert { k: 5 }),
+        op(2, Call::Remove { k: 6 }),
+        op(2, Call::Has { k: 7 }),
+        op(3, Call::Read { i: 15 }),
+        op(
+            3,
+            Call::Shift {
+                from: 3,
+                to: 0,
+                n: 8,
+            },
+        ),
+        op(
+            3,
+            Call::Multi {
+                count: 1,
+                rows: [row(15, 8, 9), none, none, none],
+            },
+        ),
+        op(
+            3,
+            Call::Multi {
+                count: 2,
+                rows: [row(1, 2, 3), row(4, 5, 6), none, none],
+            },
+        ),
+        op(
+            3,
+            Call::Multi {
+                count: 3,
+                rows: [row(1, 2, 3), row(4, 5, 6), row(7, 8, 9), none],
+            },
+        ),
+        op(
+            3,
+            Call::Multi {
+                count: 4,
+                rows: [row(0, 0, 5), row(1, 0, 6), row(2, 0, 7), row(3, 0, 8)],
+            },
+        ),
+    ];
+    let tasks = set.tasks();
+    assert_eq!(rt; tasks.len(), 1);
+    assert!(rt; tasks[0].body.items() == expected.as_slice());
     Ok(())
 }
 

@@ -1,5 +1,5 @@
 use Rattle.std.proofs.Common.{arith}
-use Rattle.rx_file.proofs.Valid.{valid, cells}
+use Rattle.rx_file.proofs.Valid.{valid}
 use Rattle.rx_file.proofs.sets.read_file.Goals as goal
 
 pub build-requires : goal.build-requires
@@ -8,6 +8,3 @@ build-requires c =
     (omega (arith, c.in_ok-objects.ensures.count, c.in_ok-of_objects.ensures.few))
     (omega (arith, c.in_ok-tasks.ensures.count, c.in_ok-of_tasks.ensures.length))
     (omega (arith, c.in_ok-tasks.ensures.count, c.in_ok-of_tasks.ensures.length))
-
-pub returns-clause-cells : goal.returns-clause-cells
-returns-clause-cells c = cells _ _ _ _ c.in_ok-objects.ensures.good c.build.ensures

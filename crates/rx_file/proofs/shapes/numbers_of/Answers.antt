@@ -6,5 +6,5 @@ use Rattle.rx_file.proofs.shapes.numbers_of.Goals as goal
 
 pub returns-then-is_full : goal.returns-then-is_full
 returns-then-is_full c =
-    let full : length c.loop-word.numbers.items ≡ 2 = grind (arith, nat_tests) in
+    let full : length c.loop-word.numbers.items ≡ 12 = grind (arith, nat_tests) in
     number_full (words_of c.args.text.now) (words_of c.loop-word.text.now) _ _ _ c.loop-word.invariant c.in-Some.ensures.words full
