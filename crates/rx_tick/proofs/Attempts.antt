@@ -1,5 +1,5 @@
 -- Attempts on objects: their slots and their outcomes.
-use Rattle.std.proofs.Common.{ℕ, zero, suc, ◌≡◌, ◌≤◌, ◌<◌, ◌+◌, ◌==◌, ◌&&◌, ◌||◌, ◌⊎◌, inl, inr, nat_lt, Bool, true, false, if◌then◌else◌, length, Option, Some, None, refl, sym, ◌∙◌, ap, arith, subst}
+use Rattle.std.proofs.Common.{ℕ, zero, suc, ◌≡◌, ◌≢◌, ◌≤◌, ◌<◌, ◌+◌, ◌==◌, ◌&&◌, ◌||◌, ◌⊎◌, inl, inr, nat_lt, Bool, true, false, if◌then◌else◌, length, Option, Some, None, refl, sym, ◌∙◌, ap, arith, subst}
 use Rattle.std.proofs.Math.Decide.{dec_le}
 use Rattle.std.proofs.lemmas.Bool.{false≢true}
 use Rattle.std.proofs.lemmas.Bool.Decides.{nat_tests}
@@ -10,7 +10,7 @@ use Rattle.rx_set.specs.declared.items.Item.TheVariants.{Op}
 use Rattle.rx_set.specs.declared.jobs.Job.{Job}
 use Rattle.rx_set.specs.System.{System, parts_of, item_at, attempt_cost}
 use Rattle.rx_tick.specs.Schedule.{Slot, Busy, Decide, Progress, ticked, job_in, history, wins_on, won_after, slots, slot_at}
-use Rattle.rx_tick.specs.Laws.{who, so_far, owned, slots_of, IsSpoiled}
+use Rattle.rx_tick.specs.Laws.{who, so_far, owned, slots_of, IsAmid, IsSpoiled}
 use Rattle.rx_tick.proofs.Prefixes.{slots_count}
 use Rattle.rx_tick.proofs.Choices.{both}
 use Rattle.rx_tick.proofs.Steps.{IsOwn, Goes, Works, Loses, Wins, IsEither, Own, Other, either, own_at, same_self}
@@ -73,6 +73,57 @@ held system job (suc n) = by_owner (either system n job) (held system job n)
     by_owner : IsEither system n job → IsHeld system job n (so_far system job n) → IsHeld system job (suc n) (so_far system job (suc n))
     by_owner (Own mine own) before = held_own system job n mine own before
     by_owner (Other not_mine h) before = subst (IsHeld system job (suc n)) (sym h.stays) (held_other system job n (so_far system job n) h.none before)
+
+-- and in each of its slots since the first it goes on
+abbrev GoesOnSince : System → Job → ℕ → Progress → Type 0
+GoesOnSince system job n p = 1 ≤ p.made → (m : ℕ) → p.first < m → m < n → who system m ≡ Some job → IsAmid system job p.first p.complete m
+
+since_more : (system : System) (job : Job) (n : ℕ) (p : Progress) → slot_at system n ≡ Busy job → p ≡ so_far system job n → (1 ≤ p.made → IsBegun system job n p) → GoesOnSince system job n p
+    → GoesOnSince system job (suc n) (ticked n p)
+since_more system job n p is same_progress begun before = by_test (p.made == 0) refl
+  where
+    none_between : (m : ℕ) → n < m → m < suc n → ⊥
+    none_between m h k = absurd (omega arith)
+
+    here : 1 ≤ p.made → IsAmid system job p.first p.complete n
+    here some = record {
+      busy = is;
+      item = ap (λ (q : Progress). q.complete) (sym same_progress);
+      begins = ap (λ (q : Progress). q.first) (sym same_progress);
+      some = subst (λ (q : Progress). 1 ≤ q.made) same_progress some;
+      made = (begun some).counts ∙ ap (λ (q : Progress). slots_of job (slots system p.first) + q.made) same_progress;
+    }
+
+    by_time : 1 ≤ p.made → (m : ℕ) → p.first < m → m < suc n → who system m ≡ Some job → IsAmid system job p.first p.complete m
+    by_time some m after early mine = elim (dec_le n m) [
+      | yes now ↦ let same_time : n ≡ m = omega arith in subst (IsAmid system job p.first p.complete) same_time (here some)
+      | no earlier ↦ before some m after (omega arith) mine
+    ]
+
+    by_test : (b : Bool) → (p.made == 0) ≡ b → GoesOnSince system job (suc n) (record { complete = p.complete; made = p.made + 1; first = if b then n else p.first })
+    by_test true e = λ more m after early mine. absurd (none_between m after early)
+    by_test false e = let some : 1 ≤ p.made = grind (arith, nat_tests) in λ more. by_time some
+
+since_own : (system : System) (job : Job) (n : ℕ) → IsOwn system (slots system n) job (slot_at system n) → GoesOnSince system job n (so_far system job n) → GoesOnSince system job (suc n) (so_far system job (suc n))
+since_own system job n (Goes is some next) before =
+    subst (GoesOnSince system job (suc n)) (ap (λ (k : ℕ). ticked k (so_far system job n)) (sym (slots_count system n)) ∙ sym next) (since_more system job n (so_far system job n) is refl (held system job n) before)
+since_own system job n (Works is all next) before = subst (GoesOnSince system job (suc n)) (sym next) (λ more. absurd (omega arith))
+since_own system job n (Loses object call is item all spoiled next) before = subst (GoesOnSince system job (suc n)) (sym next) (λ more. absurd (omega arith))
+since_own system job n (Wins object call is item all calm next) before = subst (GoesOnSince system job (suc n)) (sym next) (λ more. absurd (omega arith))
+
+since_other : (system : System) (job : Job) (n : ℕ) (p : Progress) → who system n ≢ Some job → GoesOnSince system job n p → GoesOnSince system job (suc n) p
+since_other system job n p not_mine before = λ some m after early mine. elim (dec_le n m) [
+  | yes now ↦ let same_time : m ≡ n = omega arith in absurd (not_mine (subst (λ (k : ℕ). who system k ≡ Some job) same_time mine))
+  | no earlier ↦ before some m after (omega arith) mine
+]
+
+goes_on_since : (system : System) (job : Job) (n : ℕ) → GoesOnSince system job n (so_far system job n)
+goes_on_since system job zero = λ some. absurd (omega arith)
+goes_on_since system job (suc n) = by_owner (either system n job) (goes_on_since system job n)
+  where
+    by_owner : IsEither system n job → GoesOnSince system job n (so_far system job n) → GoesOnSince system job (suc n) (so_far system job (suc n))
+    by_owner (Own mine own) before = since_own system job n own before
+    by_owner (Other not_mine h) before = subst (GoesOnSince system job (suc n)) (sym h.stays) (since_other system job n (so_far system job n) not_mine before)
 
 -- what a slot that decides an attempt says
 pub record IsDecision (system : System) (n : ℕ) (job : Job) (object : ℕ) (outcome : Option Entry) : Type 0 where
@@ -151,6 +202,10 @@ entry_made system n job object entry e = by_own (slot_at system n) e (own_at sys
 -- an attempt that is decided was in hand
 pub decided_begun : (system : System) (n : ℕ) (job : Job) (object : ℕ) (outcome : Option Entry) → slot_at system n ≡ Decide job object outcome → IsBegun system job n (so_far system job n)
 decided_begun system n job object outcome e = held system job n (omega (arith, (decision_is system n job object outcome e).made, cost_some system object))
+
+pub decided_amid : (system : System) (m n : ℕ) (job : Job) (object : ℕ) (outcome : Option Entry) → slot_at system n ≡ Decide job object outcome → (so_far system job n).first < m → m < n → who system m ≡ Some job
+    → IsAmid system job (so_far system job n).first (so_far system job n).complete m
+decided_amid system m n job object outcome e = goes_on_since system job n (omega (arith, (decision_is system n job object outcome e).made, cost_some system object)) m
 
 -- it has as many slots of its job as an attempt takes, from its first to this one
 pub decided_cost : (system : System) (n : ℕ) (job : Job) (object : ℕ) (outcome : Option Entry) → slot_at system n ≡ Decide job object outcome

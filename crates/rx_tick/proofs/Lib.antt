@@ -2,6 +2,9 @@ pub mod Lists
 pub mod Told
 pub mod Chosen
 pub mod Moves
+pub mod Sums
+pub mod Wins
+pub mod Effects
 pub mod Banks
 pub mod Kept
 pub mod Firsts
@@ -14,4 +17,5 @@ pub mod Attempts
 pub mod Entries
 pub mod Joins
 pub mod Decisions
+pub mod Tallies
 pub mod Bodies

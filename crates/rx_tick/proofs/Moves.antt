@@ -14,7 +14,7 @@ use Rattle.rx_tick.specs.Schedule.{Slot, Idle, Busy, Decide, Progress, completed
 use Rattle.rx_tick.specs.declared.events.Event.{Event}
 use Rattle.rx_tick.specs.declared.events.Event.TheVariants.{Preempt}
 use Rattle.rx_tick.specs.Events.{last_job, preempted, decision, finish, finished_in, events_of, misses, releases}
-use Rattle.rx_tick.specs.States.{job, no_state, state_at, progress_of, with_progress, with_root, after_slot, IsState, AreStates, IsBeforeDue, AreBeforeDue, AreBeforeRelease, IsOffered, offer, best_of}
+use Rattle.rx_tick.specs.States.{job, no_state, state_at, progress_of, with_progress, after_slot, IsState, AreStates, IsBeforeDue, AreBeforeDue, AreBeforeRelease, IsOffered, offer, best_of}
 use Rattle.rx_tick.specs.Laws.{who}
 use Rattle.rx_tick.proofs.Lists.{some_same, none_not}
 use Rattle.rx_tick.proofs.Choices.{who_is}
@@ -48,19 +48,6 @@ state_stays system past time task slot mine s owner kept h =
       last = kept.last;
       order = kept.order;
     }
-
--- whatever root is kept
-pub rooted : (system : System) (past : List Slot) (time task root : ℕ) (s : State) → IsState system past time task s → IsState system past time task (with_root root s)
-rooted system past time task root s kept = record {
-  finished = kept.finished;
-  started = kept.started;
-  unfinished = kept.unfinished;
-  later = kept.later;
-  next_release = kept.next_release;
-  next = kept.next;
-  last = kept.last;
-  order = kept.order;
-}
 
 module _ (system : System) (past : List Slot) (time task : ℕ) (slot : Slot) (s : State) (owner : job_in slot ≡ Some (job task (s.finished + 1))) (kept : IsState system past time task s) where
   private_stays : (m : ℕ) → s.finished + 1 ≢ m → progress system (job task m) (slot ∷ past) ≡ progress system (job task m) past
@@ -306,92 +293,91 @@ module _ (system : System) (now : ℕ) (states : List State) (kept : AreStates s
   unfolding progress_here items_here
   few_here = omega (arith, complete_after system mine now (slot_at system now) (progress_of (state_at states mine.task)), state_here.unfinished)
 
-  module _ (root : ℕ) where
-    after_here : State
-    after_here = after_slot system now mine (slot_at system now) (with_root root (state_at states mine.task))
+  after_here : State
+  after_here = after_slot system now mine (slot_at system now) (state_at states mine.task)
 
-    counts_here : after_here.finished ≡ (if progress_here.complete == items_here then (state_at states mine.task).finished + 1 else (state_at states mine.task).finished)
-    unfolding progress_here items_here after_here
-    counts_here = finished_after (length (task_of system mine).items) (with_root root (state_at states mine.task))
-        (after system mine now (slot_at system now) (progress_of (state_at states mine.task)))
+  counts_here : after_here.finished ≡ (if progress_here.complete == items_here then (state_at states mine.task).finished + 1 else (state_at states mine.task).finished)
+  unfolding progress_here items_here after_here
+  counts_here = finished_after (length (task_of system mine).items) (state_at states mine.task)
+      (after system mine now (slot_at system now) (progress_of (state_at states mine.task)))
 
-    pub not_done : (after_slot system now mine (slot_at system now) (with_root root (state_at states mine.task))).finished ≡ (state_at states mine.task).finished → is_finished system (slot_at system now ∷ slots system now) mine ≡ false
-    unfolding after_here
-    not_done e = finished_is_here ∙ by_count (progress_here.complete == items_here) refl
-      where
-        by_count : (b : Bool) → (progress_here.complete == items_here) ≡ b → nat_le items_here progress_here.complete ≡ false
-        by_count true f = absurd (omega (arith, counts_here ∙ ap (λ (t : Bool). if t then (state_at states mine.task).finished + 1 else (state_at states mine.task).finished) f, e))
-        by_count false f = let apart : progress_here.complete ≢ items_here = grind (arith, nat_tests) in lt-leb items_here progress_here.complete (omega (arith, few_here))
+  pub not_done : (after_slot system now mine (slot_at system now) (state_at states mine.task)).finished ≡ (state_at states mine.task).finished → is_finished system (slot_at system now ∷ slots system now) mine ≡ false
+  unfolding after_here
+  not_done e = finished_is_here ∙ by_count (progress_here.complete == items_here) refl
+    where
+      by_count : (b : Bool) → (progress_here.complete == items_here) ≡ b → nat_le items_here progress_here.complete ≡ false
+      by_count true f = absurd (omega (arith, counts_here ∙ ap (λ (t : Bool). if t then (state_at states mine.task).finished + 1 else (state_at states mine.task).finished) f, e))
+      by_count false f = let apart : progress_here.complete ≢ items_here = grind (arith, nat_tests) in lt-leb items_here progress_here.complete (omega (arith, few_here))
 
-    pub done : (after_slot system now mine (slot_at system now) (with_root root (state_at states mine.task))).finished ≢ (state_at states mine.task).finished → is_finished system (slot_at system now ∷ slots system now) mine ≡ true
-    unfolding after_here
-    done e = finished_is_here ∙ by_count (progress_here.complete == items_here) refl
-      where
-        by_count : (b : Bool) → (progress_here.complete == items_here) ≡ b → nat_le items_here progress_here.complete ≡ true
-        by_count true f = let same_count : progress_here.complete ≡ items_here = grind (arith, nat_tests) in le-leb items_here progress_here.complete (omega arith)
-        by_count false f = absurd (e (counts_here ∙ ap (λ (t : Bool). if t then (state_at states mine.task).finished + 1 else (state_at states mine.task).finished) f))
+  pub done : (after_slot system now mine (slot_at system now) (state_at states mine.task)).finished ≢ (state_at states mine.task).finished → is_finished system (slot_at system now ∷ slots system now) mine ≡ true
+  unfolding after_here
+  done e = finished_is_here ∙ by_count (progress_here.complete == items_here) refl
+    where
+      by_count : (b : Bool) → (progress_here.complete == items_here) ≡ b → nat_le items_here progress_here.complete ≡ true
+      by_count true f = let same_count : progress_here.complete ≡ items_here = grind (arith, nat_tests) in le-leb items_here progress_here.complete (omega arith)
+      by_count false f = absurd (e (counts_here ∙ ap (λ (t : Bool). if t then (state_at states mine.task).finished + 1 else (state_at states mine.task).finished) f))
 
-    -- what is kept after the slot
-    state_next : IsState system (slot_at system now ∷ slots system now) (now + 1) mine.task after_here
-    unfolding after_here progress_here items_here
-    state_next =
-        let e : progress system (job mine.task ((state_at states mine.task).finished + 1)) (slot_at system now ∷ slots system now) ≡ progress_here
-        = ap (λ (j : Job). progress system j (slot_at system now ∷ slots system now)) (sym mine_is) ∙ progress_next in
-        moved system (slots system now) (now + 1) mine.task (slot_at system now) (with_root root (state_at states mine.task)) (owner_here ∙ ap (λ (j : Job). Some j) mine_is)
-        (rooted system (slots system now) (now + 1) mine.task root (state_at states mine.task) state_here) progress_here e few_here offered_here.released
+  -- what is kept after the slot
+  state_next : IsState system (slot_at system now ∷ slots system now) (now + 1) mine.task after_here
+  unfolding after_here progress_here items_here
+  state_next =
+      let e : progress system (job mine.task ((state_at states mine.task).finished + 1)) (slot_at system now ∷ slots system now) ≡ progress_here
+      = ap (λ (j : Job). progress system j (slot_at system now ∷ slots system now)) (sym mine_is) ∙ progress_next in
+      moved system (slots system now) (now + 1) mine.task (slot_at system now) (state_at states mine.task) (owner_here ∙ ap (λ (j : Job). Some j) mine_is)
+      state_here progress_here e few_here offered_here.released
 
-    states_next : AreStates system (slot_at system now ∷ slots system now) (now + 1) (slice_set states mine.task after_here)
-    states_next = record {
-      of = kept.of;
-      count = length-set states mine.task after_here ∙ kept.count;
-      each = λ task known. elim (dec_le task mine.task) [
-        | yes below ↦ elim (dec_le mine.task task) [
-          | yes above ↦
-              let here : task ≡ mine.task = omega arith in
-              subst (IsState system (slot_at system now ∷ slots system now) (now + 1) task) (sym (get_or-set_at states mine.task task after_here no_state here offered_here.task))
-              (subst (λ (t : ℕ). IsState system (slot_at system now ∷ slots system now) (now + 1) t after_here) (sym here) state_next)
-          | no before ↦ other_state task known (λ e. absurd (omega arith))
-        ]
-        | no after ↦ other_state task known (λ e. absurd (omega arith))
-      ];
-    }
-      where
-        other_state : (task : ℕ) → task < length system.tasks → mine.task ≢ task → IsState system (slot_at system now ∷ slots system now) (now + 1) task (state_at (slice_set states mine.task after_here) task)
-        other_state task known apart =
-            subst (IsState system (slot_at system now ∷ slots system now) (now + 1) task) (sym (get_or-set_other states mine.task task after_here no_state (λ e. apart (sym e))))
-            (state_stays system (slots system now) (now + 1) task (slot_at system now) mine (state_at states task) owner_here (kept.each task known) apart)
+  states_next : AreStates system (slot_at system now ∷ slots system now) (now + 1) (slice_set states mine.task after_here)
+  states_next = record {
+    of = kept.of;
+    count = length-set states mine.task after_here ∙ kept.count;
+    each = λ task known. elim (dec_le task mine.task) [
+      | yes below ↦ elim (dec_le mine.task task) [
+        | yes above ↦
+            let here : task ≡ mine.task = omega arith in
+            subst (IsState system (slot_at system now ∷ slots system now) (now + 1) task) (sym (get_or-set_at states mine.task task after_here no_state here offered_here.task))
+            (subst (λ (t : ℕ). IsState system (slot_at system now ∷ slots system now) (now + 1) t after_here) (sym here) state_next)
+        | no before ↦ other_state task known (λ e. absurd (omega arith))
+      ]
+      | no after ↦ other_state task known (λ e. absurd (omega arith))
+    ];
+  }
+    where
+      other_state : (task : ℕ) → task < length system.tasks → mine.task ≢ task → IsState system (slot_at system now ∷ slots system now) (now + 1) task (state_at (slice_set states mine.task after_here) task)
+      other_state task known apart =
+          subst (IsState system (slot_at system now ∷ slots system now) (now + 1) task) (sym (get_or-set_other states mine.task task after_here no_state (λ e. apart (sym e))))
+          (state_stays system (slots system now) (now + 1) task (slot_at system now) mine (state_at states task) owner_here (kept.each task known) apart)
 
-    pub states_after : AreStates system (slots system (now + 1)) (now + 1) (slice_set states mine.task (after_slot system now mine (slot_at system now) (with_root root (state_at states mine.task))))
-    unfolding after_here
-    states_after = subst (λ (past : List Slot). AreStates system past (now + 1) (slice_set states mine.task after_here)) (sym slots_here) states_next
+  pub states_after : AreStates system (slots system (now + 1)) (now + 1) (slice_set states mine.task (after_slot system now mine (slot_at system now) (state_at states mine.task)))
+  unfolding after_here
+  states_after = subst (λ (past : List Slot). AreStates system past (now + 1) (slice_set states mine.task after_here)) (sym slots_here) states_next
 
-    same_released : (after_slot system now mine (slot_at system now) (with_root root (state_at states mine.task))).released ≡ (state_at states mine.task).released
-    same_released = released_after (length (task_of system mine).items) (with_root root (state_at states mine.task))
-        (after system mine now (slot_at system now) (progress_of (state_at states mine.task)))
+  same_released : (after_slot system now mine (slot_at system now) (state_at states mine.task)).released ≡ (state_at states mine.task).released
+  same_released = released_after (length (task_of system mine).items) (state_at states mine.task)
+      (after system mine now (slot_at system now) (progress_of (state_at states mine.task)))
 
-    same_next : (after_slot system now mine (slot_at system now) (with_root root (state_at states mine.task))).next ≡ (state_at states mine.task).next
-    same_next = next_after (length (task_of system mine).items) (with_root root (state_at states mine.task))
-        (after system mine now (slot_at system now) (progress_of (state_at states mine.task)))
+  same_next : (after_slot system now mine (slot_at system now) (state_at states mine.task)).next ≡ (state_at states mine.task).next
+  same_next = next_after (length (task_of system mine).items) (state_at states mine.task)
+      (after system mine now (slot_at system now) (progress_of (state_at states mine.task)))
 
-    more_finished : (state_at states mine.task).finished ≤ (after_slot system now mine (slot_at system now) (with_root root (state_at states mine.task))).finished
-    unfolding after_here
-    more_finished = by_count (progress_here.complete == items_here) refl
-      where
-        by_count : (b : Bool) → (progress_here.complete == items_here) ≡ b → (state_at states mine.task).finished ≤ (after_slot system now mine (slot_at system now) (with_root root (state_at states mine.task))).finished
-        by_count true f = omega (arith, counts_here ∙ ap (λ (t : Bool). if t then (state_at states mine.task).finished + 1 else (state_at states mine.task).finished) f)
-        by_count false f = omega (arith, counts_here ∙ ap (λ (t : Bool). if t then (state_at states mine.task).finished + 1 else (state_at states mine.task).finished) f)
+  more_finished : (state_at states mine.task).finished ≤ (after_slot system now mine (slot_at system now) (state_at states mine.task)).finished
+  unfolding after_here
+  more_finished = by_count (progress_here.complete == items_here) refl
+    where
+      by_count : (b : Bool) → (progress_here.complete == items_here) ≡ b → (state_at states mine.task).finished ≤ (after_slot system now mine (slot_at system now) (state_at states mine.task)).finished
+      by_count true f = omega (arith, counts_here ∙ ap (λ (t : Bool). if t then (state_at states mine.task).finished + 1 else (state_at states mine.task).finished) f)
+      by_count false f = omega (arith, counts_here ∙ ap (λ (t : Bool). if t then (state_at states mine.task).finished + 1 else (state_at states mine.task).finished) f)
 
-    pub best_after : (after_slot system now mine (slot_at system now) (with_root root (state_at states mine.task))).finished ≡ (state_at states mine.task).finished
-        → best_of system (length system.tasks) (slice_set states mine.task (after_slot system now mine (slot_at system now) (with_root root (state_at states mine.task)))) ≡ best_of system (length system.tasks) states
-    best_after e = best_set system states mine.task (after_slot system now mine (slot_at system now) (with_root root (state_at states mine.task))) offered_here.task
-        (ap (λ (n : ℕ). nat_lt n (after_slot system now mine (slot_at system now) (with_root root (state_at states mine.task))).released) e ∙ ap (nat_lt (state_at states mine.task).finished) same_released)
-        e (length system.tasks)
+  pub best_after : (after_slot system now mine (slot_at system now) (state_at states mine.task)).finished ≡ (state_at states mine.task).finished
+      → best_of system (length system.tasks) (slice_set states mine.task (after_slot system now mine (slot_at system now) (state_at states mine.task))) ≡ best_of system (length system.tasks) states
+  best_after e = best_set system states mine.task (after_slot system now mine (slot_at system now) (state_at states mine.task)) offered_here.task
+      (ap (λ (n : ℕ). nat_lt n (after_slot system now mine (slot_at system now) (state_at states mine.task)).released) e ∙ ap (nat_lt (state_at states mine.task).finished) same_released)
+      e (length system.tasks)
 
-    pub due_after : (watch : ℕ) → AreBeforeDue system (now + 1) watch states → AreBeforeDue system (now + 1) watch (slice_set states mine.task (after_slot system now mine (slot_at system now) (with_root root (state_at states mine.task))))
-    due_after watch watched = due_set system (now + 1) watch states mine.task (after_slot system now mine (slot_at system now) (with_root root (state_at states mine.task))) offered_here.task same_released more_finished watched
+  pub due_after : (watch : ℕ) → AreBeforeDue system (now + 1) watch states → AreBeforeDue system (now + 1) watch (slice_set states mine.task (after_slot system now mine (slot_at system now) (state_at states mine.task)))
+  due_after watch watched = due_set system (now + 1) watch states mine.task (after_slot system now mine (slot_at system now) (state_at states mine.task)) offered_here.task same_released more_finished watched
 
-    pub release_after : (watch : ℕ) → AreBeforeRelease system watch states → AreBeforeRelease system watch (slice_set states mine.task (after_slot system now mine (slot_at system now) (with_root root (state_at states mine.task))))
-    release_after watch watched = release_set system watch states mine.task (after_slot system now mine (slot_at system now) (with_root root (state_at states mine.task))) offered_here.task same_next watched
+  pub release_after : (watch : ℕ) → AreBeforeRelease system watch states → AreBeforeRelease system watch (slice_set states mine.task (after_slot system now mine (slot_at system now) (state_at states mine.task)))
+  release_after watch watched = release_set system watch states mine.task (after_slot system now mine (slot_at system now) (state_at states mine.task)) offered_here.task same_next watched
 
   pub job_here : now < 2 ^ 40 → IsJob system mine
   job_here early = record {

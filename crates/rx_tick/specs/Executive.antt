@@ -5,6 +5,7 @@ use Rattle.rx_port.specs.Plain.{Whole}
 use Rattle.rx_tick.specs.Schedule.{slots}
 use Rattle.rx_tick.specs.States.{AreStates, IsTurn}
 use Rattle.rx_tick.specs.Banks.{IsKept}
+use Rattle.rx_tick.specs.declared.objects.Objects.{Objects}
 use Rattle.rx_tick.specs.declared.states.State.{State}
 use Rattle.rx_tick.specs.declared.turns.Turn.{Turn}
 
@@ -17,8 +18,8 @@ pub record Moment : Type 0 where
 abbrev pub moment : System → ℕ → Whole → Moment
 moment system time bank = record { system = system; time = time; bank = bank }
 
-pub record IsExecutive (system : System) (time : ℕ) (states : List State) (turn : Turn) (bank : Whole) : Type 0 where
+pub record IsExecutive (system : System) (time : ℕ) (states : List State) (turn : Turn) (objects : Objects) : Type 0 where
   pub bound : time ≤ 2 ^ 40
   pub all_states : AreStates system (slots system time) time states
   pub kept : IsTurn system time states turn
-  pub words : IsKept system (slots system time) states bank
+  pub words : IsKept system (slots system time) states objects

@@ -1,13 +1,15 @@
 -- The words of the laws, on worked schedules.
 use Rattle.std.specs.Prelude.{◌≡◌, ◌+◌, refl, true, false, [], ◌∷◌, take, Some, None}
+use Rattle.std.proofs.Common.{arith}
 use Rattle.rx_seq.specs.History.{tag_of}
 use Rattle.rx_seq.specs.declared.calls.Call.TheVariants.{Add}
 use Rattle.rx_seq.specs.declared.replies.Reply.TheVariants.{Done}
 use Rattle.rx_set.specs.System.{task_at}
 use Rattle.rx_tick.specs.Schedule.{Idle, Busy, Decide, history, wins_on, slots, slot_at}
 use Rattle.rx_tick.specs.Events.{wins, wins_below}
-use Rattle.rx_tick.specs.Laws.{who, so_far, finished_before, IsReply, IsRetry, slots_of, asked_up_to, lost_ticks, nth_job, operations_of, operations_up_to, operations_in}
-use Rattle.rx_tick.specs.Rows.{job, work_alone, retried, two_calls}
+use Rattle.rx_tick.specs.Laws.{who, so_far, finished_before, IsReply, IsRetry, slots_of, asked_up_to, lost_ticks, nth_job, operations_of, operations_up_to, operations_in, IsAmid}
+use Rattle.rx_tick.specs.Rows.{job, work_alone, retried, nested, two_calls}
+use Rattle.rx_tick.specs.Sums.{tried_slots, opened_slots, decided_slots}
 
 -- b has slots 0, 2 and 3, and a preempts it in slot 1
 pub work_owners : who work_alone 0 ∷ who work_alone 1 ∷ who work_alone 2 ∷ who work_alone 3 ∷ [] ≡ Some (job 1 1) ∷ Some (job 0 1) ∷ Some (job 1 1) ∷ Some (job 1 1) ∷ []
@@ -115,3 +117,34 @@ calls_of_two = refl
 -- the other task's entries are left out
 pub retried_made : operations_in 1 (history (slots retried 10)) ≡ record { object = 0; call = Add 5 } ∷ []
 retried_made = refl
+
+-- three attempts of two slots each, all of them decided
+pub retried_tried : tried_slots retried (slots retried 10) ≡ 6
+retried_tried = refl
+
+pub retried_opened : opened_slots retried (slots retried 10) ≡ 3
+retried_opened = refl
+
+pub retried_decided : decided_slots (slots retried 10) ≡ 3
+retried_decided = refl
+
+-- before slot 3 two attempts are open
+pub retried_open : opened_slots retried (slots retried 3) ≡ 2
+retried_open = refl
+
+pub retried_undecided : decided_slots (slots retried 3) ≡ 0
+retried_undecided = refl
+
+-- five attempts of eight slots each, of which two are lost
+pub nested_tried : tried_slots nested (slots nested 50) ≡ 40
+nested_tried = refl
+
+pub nested_opened : opened_slots nested (slots nested 50) ≡ 5
+nested_opened = refl
+
+pub nested_decided : decided_slots (slots nested 50) ≡ 5
+nested_decided = refl
+
+-- c's first attempt has had two ticks before b preempts it, and goes on in slot 26 with its third
+pub nested_amid : IsAmid nested (job 2 1) 0 0 26
+nested_amid = let two : (so_far nested (job 2 1) 26).made ≡ 2 = refl in record { busy = refl; item = refl; begins = refl; some = omega (arith, two); made = refl }

@@ -101,6 +101,14 @@ pub record IsSpoiled (system : System) (object first last : ℕ) : Type 0 where
   pub before : at < last
   pub wins : wins_on object (slot_at system at) ≡ true
 
+-- a slot of a job in the midst of an attempt on its item, which has had a tick in each of the job's slots from its first one to this
+pub record IsAmid (system : System) (job : Job) (first complete at : ℕ) : Type 0 where
+  pub busy : slot_at system at ≡ Busy job
+  pub item : (so_far system job at).complete ≡ complete
+  pub begins : (so_far system job at).first ≡ first
+  pub some : 1 ≤ (so_far system job at).made
+  pub made : slots_of job (slots system at) ≡ slots_of job (slots system first) + (so_far system job at).made
+
 -- a job of a task, by its number
 abbrev pub nth_job : ℕ → ℕ → Job
 nth_job task number = record { task = task; number = number }

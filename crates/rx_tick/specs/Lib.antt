@@ -2,6 +2,7 @@ pub mod Schedule
 pub mod Events
 pub mod Counts
 pub mod States
+pub mod Sums
 pub mod Banks
 pub mod Executive
 pub mod Rows

@@ -59,7 +59,7 @@ pub retried_events : events retried 10 ≡
 retried_events = refl
 
 -- a preempts b, which preempted c, all on one queue of capacity 1, whose attempts take 8 ticks
-abbrev nested : System
+abbrev pub nested : System
 nested = record {
   policy = Rm;
   objects = queue ∷ [];

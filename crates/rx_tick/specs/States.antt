@@ -2,7 +2,7 @@
 use Rattle.std.specs.Prelude.{ℕ, zero, suc, ◌≡◌, ◌==◌, ◌&&◌, ◌+◌, ◌<◌, ◌≤◌, ◌^◌, Bool, true, if◌then◌else◌, nat_lt, Option, None, List, [], length, get_or, map, filter}
 use Rattle.std.specs.Option.{ForSome}
 use Rattle.rx_set.specs.declared.jobs.Job.{Job}
-use Rattle.rx_set.specs.System.{System, TaskRow, AreCells, task_at, task_of, release, due}
+use Rattle.rx_set.specs.System.{System, TaskRow, task_at, task_of, release, due}
 use Rattle.rx_set.specs.Valid.{IsJob, IsValid}
 use Rattle.rx_tick.specs.Schedule.{Slot, Progress, sooner, start, after, progress, is_finished, completed, lost, ticked, slots, jobs_of}
 use Rattle.rx_tick.specs.Events.{last_job, is_missed, is_released_at}
@@ -14,7 +14,7 @@ use Rattle.rx_tick.specs.declared.states.Made.TheVariants.{On, Ended, Lost}
 use Rattle.rx_tick.specs.declared.turns.Turn.{Turn}
 
 abbrev pub no_state : State
-no_state = record { released = 0; next = 0; finished = 0; complete = 0; made = 0; first = 0; root = 0 }
+no_state = record { released = 0; next = 0; finished = 0; complete = 0; made = 0; first = 0 }
 
 abbrev pub state_at : List State → ℕ → State
 state_at states task = get_or states task no_state
@@ -34,14 +34,13 @@ pub record IsState (system : System) (past : List Slot) (time task : ℕ) (s : S
   pub last : 1 ≤ s.released → release system (job task s.released) < time
   pub order : s.finished ≤ s.released
 
--- the systems that the executive serves: valid ones whose objects are cells, with no demand rows
-pub record IsCellSystem (system : System) : Type 0 where
+-- the systems that the executive serves: valid ones with no demand rows
+pub record IsServed (system : System) : Type 0 where
   pub valid : IsValid system
-  pub cells : AreCells system
   pub no_demands : system.demands ≡ []
 
 pub record AreStates (system : System) (past : List Slot) (time : ℕ) (states : List State) : Type 0 where
-  pub of : IsCellSystem system
+  pub of : IsServed system
   pub count : length states ≡ length system.tasks
   pub each : (task : ℕ) → task < length system.tasks → IsState system past time task (state_at states task)
 
@@ -74,10 +73,6 @@ abbrev pub with_progress : ℕ → State → Progress → State
 with_progress items s p =
     if p.complete == items then record s { finished = s.finished + 1; complete = 0; made = 0; first = 0 }
     else record s { complete = p.complete; made = p.made; first = p.first }
-
--- the same state, with the root that an attempt loaded
-abbrev pub with_root : ℕ → State → State
-with_root root s = record s { root = root }
 
 -- what a state says of the item in hand
 abbrev pub in_hand : State → State
@@ -123,10 +118,10 @@ releases_at system now task = map (Release now) (filter (is_released_at system n
 
 -- the first unfinished job of each task can be asked for its key
 pub record AreOffers (system : System) (states : List State) : Type 0 where
-  pub of : IsCellSystem system
+  pub of : IsServed system
   pub count : length states ≡ length system.tasks
   pub few : (task : ℕ) → task < length system.tasks → (state_at states task).released ≤ 2 ^ 40
 
 -- the state of a task before the first slot
 abbrev pub first_state_of : TaskRow → State
-first_state_of row = record { released = 0; next = row.offset; finished = 0; complete = 0; made = 0; first = 0; root = 0 }
+first_state_of row = record { released = 0; next = row.offset; finished = 0; complete = 0; made = 0; first = 0 }

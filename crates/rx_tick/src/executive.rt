@@ -1,9 +1,9 @@
 // The executive.
 ghost use Rattle.std.specs.Prelude.{◌≡◌, ◌<◌, ◌+◌, ◌^◌, IfOk, Some, None, []};
 ghost use Rattle.rx_port.specs.Seats.{no_counts};
-ghost use Rattle.rx_set.specs.System.{AreCells};
 ghost use Rattle.rx_tick.specs.Banks.{IsBankOf, Touches};
 ghost use Rattle.rx_tick.specs.Executive.{moment};
+ghost use Rattle.rx_tick.specs.Sums.{AreSums};
 ghost use Rattle.rx_tick.specs.States.{AreStates, IsTurn, first_state_of};
 ghost use Rattle.rx_set.specs.View.{row_of};
 ghost use Rattle.rx_tick.specs.Schedule.{slots, slot_at, job_in};
@@ -32,13 +32,11 @@ fn first_state(task: &Task) -> State
         complete: 0,
         made: 0,
         first: 0,
-        root: 0,
     }
 }
 
 /// The states of all tasks before the first slot.
 fn first_states(alloc: Global, set: &TaskSet) -> Result<Vec<State>, NoMemory>
-    requires { AreCells set.now }
     ensures states { IfOk result (λ states. AreStates set.now [] 0 states.items) }
     ensures turn { IfOk result (λ states. IsTurn set.now 0 states.items (record { next_release = 0; next_due = 0; best = None; last = None })) }
 {
@@ -57,8 +55,9 @@ fn first_states(alloc: Global, set: &TaskSet) -> Result<Vec<State>, NoMemory>
 }
 
 /// One simulated processor, and a set of tasks that it runs, slot by slot, with the objects that they share. It keeps one
-/// started job per task, and counts of released and finished jobs. An operation is a retry loop (after Anderson, Ramamurthy
-/// and Jeffay, 1997): an attempt is lost where another one on its object won strictly between its first slot and its last.
+/// started job per task, with a machine for the operation that it has in hand, and counts of released and finished jobs.
+/// An operation is a retry loop (after Anderson, Ramamurthy and Jeffay, 1997): an attempt is lost where another one on
+/// its object won strictly between its first slot and its last.
 #[derive(Drop)]
 pub struct Executive<'s> {
     set: &'s TaskSet,
@@ -75,20 +74,24 @@ impl<'s> Model for Executive<'s> {
 
     ghost view = { λ e. moment e.set.now e.time e.objects.bank };
 
-    ghost invariant = { λ e. IsExecutive e.set.now e.time e.states.items e.turn e.objects.bank };
+    ghost invariant = { λ e. IsExecutive e.set.now e.time e.states.items e.turn e.objects };
 }
 
 impl<'s> Executive<'s> {
     /// The executive of a set before its first slot, on a new bank: one with the set's objects, whose tags start at 0, a
-    /// seat for each task, and no event yet. In this version each object is a cell. It takes memory for each task.
+    /// seat for each task, and no event yet. It takes memory for each task: about 2,600 bytes for its machine, and little
+    /// more.
     pub fn new(alloc: Global, set: &'s TaskSet, bank: Bank) -> Result<Executive<'s>, NoMemory>
-        requires cells { AreCells set.now }
         requires bank { IsBankOf set.now [] bank }
         requires counts { bank.core.counts ≡ Some no_counts }
         ensures { IfOk result (λ e. e ≡ moment set.now 0 bank) }
     {
         let states = match first_states(alloc, set) {
             Ok(states) => states,
+            Err(error) => return Err(error),
+        };
+        let objects = match Objects::new(alloc, set.tasks().len(), bank) {
+            Ok(objects) => objects,
             Err(error) => return Err(error),
         };
         Ok(Executive {
@@ -101,7 +104,7 @@ impl<'s> Executive<'s> {
                 best: None,
                 last: None,
             },
-            objects: Objects::new(bank),
+            objects,
         })
     }
 
@@ -113,16 +116,18 @@ impl<'s> Executive<'s> {
     }
 
     /// Makes the next slot, and tells it and its events: misses and releases in file order of the tasks, preemption,
-    /// reply or retry, finish. The first tick of an attempt makes one load on the bank and the last one exchange; a slot
-    /// that belongs to no attempt touches nothing. It wants fewer than 2^40 slots so far, and takes no memory. Where no job is released or finished and none can
-    /// be missed, its cost is constant, and else it grows with the number of tasks.
+    /// reply or retry, finish. The first tick of an attempt makes one load on the bank, the last one an exchange, and each
+    /// other one a load, a store or nothing; a slot that belongs to no attempt touches nothing. A store goes into a place
+    /// that the seat of the job's task owns, and an exchange to the root of the attempt's object. It wants fewer than 2^40
+    /// slots so far, and takes no memory. Where no job is released or finished and none can be missed, its cost is that of
+    /// a machine's step, and else it grows with the number of tasks too.
     pub fn tick(&mut self, out: &mut Tick)
         requires { self.old.time < 2 ^ 40 }
         ensures at { out.new.at ≡ self.old.time }
         ensures slot { out.new.slot ≡ job_in (slot_at self.old.system self.old.time) }
         ensures events { out.new.events.items ≡ events_of self.old.system (slots self.old.system self.old.time) (slot_at self.old.system self.old.time) }
         ensures next { self.new ≡ moment self.old.system (self.old.time + 1) self.new.bank }
-        ensures touches { Touches self.old.system (slots self.old.system self.old.time) (slot_at self.old.system self.old.time) self.old.bank.core.counts self.new.bank.core.counts }
+        ensures touches { Touches self.old.system (slots self.old.system self.old.time) (slot_at self.old.system self.old.time) self.old.bank self.new.bank }
     {
         out.at = self.time;
         out.events.clear();
@@ -152,11 +157,14 @@ impl<'s> Executive<'s> {
     }
 
     /// Gives the bank back, which has the set's objects and a seat for each task and stands for the history of the
-    /// schedule: the tag of each object is the number of its entries, and its state is their replay. Its cost is constant.
+    /// schedule: the tag of each object is the number of its entries, and its state is their replay. It made one exchange
+    /// for each attempt that was decided, at least a load for each that had a slot, and at most one event in each slot of
+    /// an attempt. Its cost is constant.
     pub fn into_bank(self) -> Bank
         ensures bank { result ≡ self.entry.bank }
         ensures history { IsBankOf self.entry.system (slots self.entry.system self.entry.time) result }
+        ensures sums { AreSums self.entry.system (slots self.entry.system self.entry.time) result.core.counts }
     {
-        self.objects.bank
+        self.objects.into_bank()
     }
 }

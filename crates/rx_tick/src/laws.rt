@@ -9,12 +9,14 @@ ghost use Rattle.rx_set.specs.Valid.{IsJobOf, IsValid, IsWork};
 ghost use Rattle.rx_set.specs.declared.items.Item.{Item};
 ghost use Rattle.rx_set.specs.declared.items.Item.TheVariants.{Op};
 ghost use Rattle.rx_set.specs.declared.jobs.Job.{Job};
+ghost use Rattle.rx_tick.specs.Counts.{is_reply, is_retry};
 ghost use Rattle.rx_tick.specs.Events.{events, wins, wins_below};
-ghost use Rattle.rx_tick.specs.Laws.{FollowsBodies, IsLeastAt, IsPendingAt, IsPreemption, IsReply, IsRetry, IsSpoiled, asked_by, asked_up_to, finished_before, lost_ticks, nth_job, slots_of, so_far, who};
+ghost use Rattle.rx_tick.specs.Laws.{FollowsBodies, IsAmid, IsLeastAt, IsPendingAt, IsPreemption, IsReply, IsRetry, IsSpoiled, asked_by, asked_up_to, finished_before, lost_ticks, nth_job, slots_of, so_far, who};
 ghost use Rattle.rx_tick.specs.Schedule.{Busy, Decide, Idle, history, slot_at, slots};
+ghost use Rattle.rx_tick.specs.Sums.{decided_slots};
 ghost use Rattle.rx_tick.specs.declared.events.Event.TheVariants.{Preempt, Reply, Retry};
 ghost use Rattle.std.specs.List.{Contains};
-ghost use Rattle.std.specs.Prelude.{ℕ, Option, List, suc, ◌∷◌, ◌++◌, ◌≡◌, ◌≢◌, ◌≤◌, ◌<◌, ◌+◌, ◌-◌, ◌↔◌, length, drop, slice_get, Some, None, true, false};
+ghost use Rattle.std.specs.Prelude.{ℕ, Option, List, suc, ◌∷◌, ◌++◌, ◌≡◌, ◌≢◌, ◌≤◌, ◌<◌, ◌+◌, ◌-◌, ◌↔◌, count_by, length, drop, slice_get, Some, None, true, false};
 
 /// A longer schedule begins with the shorter one: slots never change once they are made. The list of the first n slots
 /// has n of them, the newest first, and slot n is the same in each list that has it.
@@ -41,12 +43,14 @@ pub fn preemptions_are_releases()
 
 /// The events of the first n slots tell the reply of each attempt that wins in them and the retry of each that is lost,
 /// and only these: with the attempt's first slot and its item, the reply and the tag of the entry that is made, or the
-/// tag that its object had when the attempt began and the one that it has now.
+/// tag that its object had when the attempt began and the one that it has now. There are as many of them as attempts that
+/// are decided in these slots.
 pub fn replies_and_retries_are_told()
     ensures replies { (system : System) (n at first : ℕ) (job : Job) (item : ℕ) (reply : Answer) (tag : ℕ) →
         Contains (events system n) (Reply at first job item reply tag) ↔ ((at < n) × IsReply system at first job item reply tag) }
     ensures retries { (system : System) (n at first : ℕ) (job : Job) (item expected found : ℕ) →
         Contains (events system n) (Retry at first job item expected found) ↔ ((at < n) × IsRetry system at first job item expected found) }
+    ensures count { (system : System) (n : ℕ) → count_by is_reply (events system n) + count_by is_retry (events system n) ≡ decided_slots (slots system n) }
 {}
 
 /// The slots of a job are cut into its items in turn: what its complete items ask for, then what is in hand, which is
@@ -77,7 +81,8 @@ pub fn nothing_runs_unreleased()
 
 /// An attempt on an object that is decided in a slot is the one that its job's item asks for. It was begun in its first
 /// slot, and from that slot to this one its job has exactly the slots that an attempt on the object takes. It is lost
-/// exactly where an attempt on its object won, and raised its tag, in a slot strictly between these two.
+/// exactly where an attempt on its object won, and raised its tag, in a slot strictly between these two. In each of the
+/// job's slots between them it goes on: the item in hand is the same, and its ticks are counted up.
 pub fn attempts_take_their_cost()
     ensures begins { (system : System) (n object : ℕ) (job : Job) (outcome : Option Entry) → slot_at system n ≡ Decide job object outcome →
         ((so_far system job n).first < n) × (slot_at system (so_far system job n).first ≡ Busy job) × ((so_far system job (so_far system job n).first).made ≡ 0) }
@@ -87,6 +92,8 @@ pub fn attempts_take_their_cost()
         (so_far system job n).made + 1 ≡ attempt_cost system object }
     ensures cost { (system : System) (n object : ℕ) (job : Job) (outcome : Option Entry) → slot_at system n ≡ Decide job object outcome →
         slots_of job (slots system (suc n)) ≡ slots_of job (slots system (so_far system job n).first) + attempt_cost system object }
+    ensures steps { (system : System) (m n object : ℕ) (job : Job) (outcome : Option Entry) → slot_at system n ≡ Decide job object outcome →
+        (so_far system job n).first < m → m < n → who system m ≡ Some job → IsAmid system job (so_far system job n).first (so_far system job n).complete m }
     ensures outcome { (system : System) (n object : ℕ) (job : Job) (outcome : Option Entry) → slot_at system n ≡ Decide job object outcome →
         (outcome ≡ None) ↔ IsSpoiled system object (so_far system job n).first n }
 {}

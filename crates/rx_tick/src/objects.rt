@@ -1,157 +1,151 @@
-// Attempts on shared objects: the load that begins one, and the exchange that decides it.
-ghost use Rattle.std.specs.Prelude.{◌≡◌, ◌≤◌, ◌<◌, ◌+◌, ◌++◌, ◌∷◌, [], Some};
+// Operations on shared objects: the bank, and a machine of each task, which makes its attempts.
+ghost use Rattle.std.specs.Prelude.{ℕ, ◌≡◌, ◌≤◌, ◌<◌, ◌+◌, ◌++◌, ◌∷◌, [], Some, IfOk, true, length};
 ghost use Rattle.arrayvec.specs.ArrayVec.{array_vec_len};
+ghost use Rattle.rx_machine.specs.Operations.{fresh};
+ghost use Rattle.rx_seq.specs.History.{part_at};
+ghost use Rattle.rx_seq.specs.Table.{fits_part};
 ghost use Rattle.rx_set.specs.System.{item_at};
 ghost use Rattle.rx_set.specs.declared.items.Item.TheVariants.{Op};
-ghost use Rattle.rx_shape.specs.Asks.{IsPlanned};
 ghost use Rattle.rx_shape.specs.Layout.{home};
-ghost use Rattle.rx_tick.specs.Banks.{HasTicked, IsTicking};
+ghost use Rattle.rx_tick.specs.Banks.{CanStep, HasStepped, HasTicked, IsTicking};
 ghost use Rattle.rx_tick.specs.Events.{decision};
 ghost use Rattle.rx_tick.specs.Schedule.{slot_at, slots};
-ghost use Rattle.rx_tick.specs.declared.states.Made.TheVariants.{On};
 
 use crate::events::Event;
 use crate::states::{Made, State};
 use arrayvec::ArrayVec;
-use rx_port::laws::{attempts_lose_to_entries, bank_stays_lawful};
-use rx_port::{Bank, Port};
-use rx_seq::{Call, Reply};
+use rx_machine::laws::steps_on_a_bank;
+use rx_machine::{Machine, Step};
+use rx_port::Bank;
+use rx_seq::{Call, NoMemory};
 use rx_set::{Job, TaskSet};
-use rx_shape::{Inline, Plan, Shape, Trade, tag_of};
+use rx_shape::{Layout, tag_of};
+use std::alloc::Global;
 
-/// The room in which attempts are planned.
-#[derive(Drop)]
-struct Draft {
-    own: ArrayVec<u32, 65>,
-    plan: Plan,
-}
-
-/// The bank, and room for what is planned on it.
+/// The bank, and the machine of each task, which is there from the task's first operation on.
 #[derive(Drop)]
 pub struct Objects {
     pub bank: Bank,
-    draft: Draft,
+    pub machines: Vec<Option<Machine>>,
 }
 
-/// An operation of a job.
-#[derive(Clone, Copy)]
-pub struct Operation {
-    pub job: Job,
-    pub object: u32,
-    pub call: Call,
+/// Makes a machine for the first operation of a task. It is a function of its own since a machine is large.
+#[cold]
+#[inline(never)]
+fn set_up(machine: &mut Option<Machine>, layout: &Layout, object: u32, call: &Call)
+    requires exists { object < length layout.now.parts }
+    requires fits { fits_part (part_at layout.now.parts object) call.now ≡ true }
+    ensures { machine.new ≡ Some (fresh (home layout.now object) object call.now) }
+{
+    *machine = Some(Machine::start(layout, object, *call));
 }
 
-impl Draft {
-    /// Nothing is planned.
-    fn new() -> Draft {
-        Draft {
-            own: ArrayVec::new(),
-            plan: Plan {
-                root: 0,
-                writes: ArrayVec::new(),
-                trade: Trade {
-                    pairs: ArrayVec::new(),
-                },
-            },
-        }
+/// Makes the machine of a task that of an operation whose attempt has had no tick. One that has had some goes on.
+fn take_up(machine: &mut Option<Machine>, layout: &Layout, made: u64, object: u32, call: &Call)
+    requires exists { object < length layout.now.parts }
+    requires fits { fits_part (part_at layout.now.parts object) call.now ≡ true }
+    ensures first { made ≡ 0 → machine.new ≡ Some (fresh (home layout.now object) object call.now) }
+    ensures later { 1 ≤ made → machine.new ≡ machine.old }
+{
+    if made > 0 {
+        return;
     }
+    match machine {
+        Some(machine) => machine.restart(layout, object, *call),
+        None => set_up(machine, layout, object, call),
+    }
+}
 
-    /// Plans the call of an operation on the root that its attempt loaded.
-    fn plan(
-        &mut self,
-        bank: &Bank,
-        set: &TaskSet,
-        state: State,
-        operation: Operation,
-        now: u64,
-    ) -> Reply
-        requires is { IsTicking set.now now operation.job state bank.now }
-        requires item { item_at set.now operation.job state.complete ≡ Some (Op operation.object operation.call) }
-        requires begun { 1 ≤ state.made }
-        ensures { IsPlanned (home bank.now.layout operation.object) operation.call state.root [] [] self.new.plan.root self.new.plan.writes.items self.new.plan.trade.pairs.items result }
-    {
-        let part = bank.layout().parts()[operation.object as usize];
-        let shape = Inline::start(part, operation.call, 0, 0);
-        self.own.clear();
-        shape.plan(state.root, &self.own, &mut self.plan)
+/// Makes a step of the machine of a task with its seat.
+fn make_step(machine: &mut Option<Machine>, bank: &mut Bank, task: u32) -> Step
+    requires { CanStep bank.old task machine.old }
+    ensures { HasStepped bank.old bank.new task machine.old machine.new result }
+{
+    let mut seat = task;
+    match machine {
+        Some(machine) => machine.step(bank, &mut seat),
+        None => unreachable!(),
     }
 }
 
 impl Objects {
-    /// A bank, with nothing planned.
-    pub fn new(bank: Bank) -> Objects
-        ensures { result.bank ≡ bank }
+    /// A bank, and room for a machine of each of so many tasks.
+    pub fn new(alloc: Global, tasks: usize, bank: Bank) -> Result<Objects, NoMemory>
+        ensures bank { IfOk result (λ objects. objects.bank ≡ bank) }
+        ensures machines { IfOk result (λ objects. length objects.machines.items ≡ tasks) }
     {
-        Objects {
-            bank,
-            draft: Draft::new(),
+        let mut machines = match Vec::with_capacity(alloc, tasks) {
+            Ok(machines) => machines,
+            Err(_) => return Err(NoMemory),
+        };
+        for _ in 0..tasks {
+            match machines.push(None) {
+                Ok(()) => {}
+                Err(_) => return Err(NoMemory),
+            }
         }
+        Ok(Objects { bank, machines })
     }
 
-    /// Makes the first tick of an attempt of an operation, which loads the root.
-    pub fn begin(&mut self, set: &TaskSet, state: &mut State, operation: Operation, now: u64)
-        requires is { IsTicking set.now now operation.job state.old self.old.bank }
-        requires item { item_at set.now operation.job state.old.complete ≡ Some (Op operation.object operation.call) }
-        requires fresh { state.old.made ≡ 0 }
-        ensures ticked { HasTicked set.now now operation.job state.old state.new On self.old.bank self.new.bank }
-        ensures told { decision set.now (slots set.now now) (slot_at set.now now) ≡ [] }
+    /// Gives the bank back.
+    pub fn into_bank(self) -> Bank
+        ensures { result ≡ self.bank }
     {
-        let _layout = self.bank.layout();
-        bank_stays_lawful();
-        attempts_lose_to_entries();
-        let mut seat = operation.job.task;
-        state.root = self.bank.begin(&mut seat, operation.object, operation.call);
+        self.bank
     }
 
-    /// Makes the last tick of an attempt of an operation, which decides it, and tells its reply or its retry.
-    pub fn decide(
+    /// Makes a tick of an operation of a job, and tells its reply or its retry where it is the last one of an attempt.
+    pub fn operate(
         &mut self,
         set: &TaskSet,
-        state: State,
-        operation: Operation,
+        state: &State,
+        job: Job,
+        object: u32,
+        call: &Call,
         now: u64,
         events: &mut ArrayVec<Event, 131>,
     ) -> Made
-        requires is { IsTicking set.now now operation.job state self.old.bank }
-        requires item { item_at set.now operation.job state.complete ≡ Some (Op operation.object operation.call) }
-        requires begun { 1 ≤ state.made }
+        requires is { IsTicking set.now now job state.now self.old }
+        requires item { item_at set.now job state.now.complete ≡ Some (Op object call.now) }
         requires room { array_vec_len events.old < 131 }
-        ensures ticked { HasTicked set.now now operation.job state state result self.old.bank self.new.bank }
+        ensures ticked { HasTicked set.now now job state.now result self.old self.new }
         ensures told { events.new.items ≡ events.old.items ++ decision set.now (slots set.now now) (slot_at set.now now) }
         ensures few { array_vec_len events.new ≤ array_vec_len events.old + 1 }
     {
-        bank_stays_lawful();
-        attempts_lose_to_entries();
-        let _layout = self.bank.layout();
-        let reply = self.draft.plan(&self.bank, set, state, operation, now);
-        let mut seat = operation.job.task;
-        let found = self.bank.decide(
-            &mut seat,
-            operation.object,
-            state.root,
-            self.draft.plan.root,
-            &self.draft.plan.trade,
+        steps_on_a_bank();
+        let task = job.task as usize;
+        take_up(
+            &mut self.machines[task],
+            self.bank.layout(),
+            state.made,
+            object,
+            call,
         );
-        let item = state.complete as u32 + 1;
-        if found == state.root {
-            events.push(Event::Reply {
-                at: now,
-                first: state.first,
-                job: operation.job,
-                item,
-                reply,
-                tag: tag_of(self.draft.plan.root),
-            });
-            return Made::Ended;
+        match make_step(&mut self.machines[task], &mut self.bank, job.task) {
+            Step::Won { reply, tag } => {
+                events.push(Event::Reply {
+                    at: now,
+                    first: state.first,
+                    job,
+                    item: state.complete as u32 + 1,
+                    reply,
+                    tag,
+                });
+                Made::Ended
+            }
+            Step::Lost { expected, found } => {
+                events.push(Event::Retry {
+                    at: now,
+                    first: state.first,
+                    job,
+                    item: state.complete as u32 + 1,
+                    expected: tag_of(expected),
+                    found: tag_of(found),
+                });
+                Made::Lost
+            }
+            Step::Going | Step::Idle => Made::On,
+            Step::Spent { .. } => unreachable!(),
         }
-        events.push(Event::Retry {
-            at: now,
-            first: state.first,
-            job: operation.job,
-            item,
-            expected: tag_of(state.root),
-            found: tag_of(found),
-        });
-        Made::Lost
     }
 }

@@ -3,21 +3,18 @@ ghost use Rattle.std.specs.Prelude.{ℕ, ◌≡◌, ◌≢◌, ◌≤◌, ◌<�
 ghost use Rattle.std.specs.Option.{ForSome};
 ghost use Rattle.arrayvec.specs.ArrayVec.{array_vec_len};
 ghost use Rattle.rx_set.specs.Valid.{IsJob, IsWorkAt};
-ghost use Rattle.rx_set.specs.System.{System, item_at};
-ghost use Rattle.rx_set.specs.declared.items.Item.TheVariants.{Op};
-ghost use Rattle.rx_port.specs.Plain.{view_at};
+ghost use Rattle.rx_set.specs.System.{System, task_of};
 ghost use Rattle.rx_tick.specs.Schedule.{Slot, slots, slot_at, job_in, same, is_finished};
 ghost use Rattle.rx_tick.specs.Events.{preempted, finish, events_of, decision};
-ghost use Rattle.rx_tick.specs.States.{AreStates, IsTurn, AreBeforeDue, AreBeforeRelease, best_of, after_slot, with_root};
-ghost use Rattle.rx_tick.specs.Banks.{HasTicked, IsBankOf, IsInHand, IsKept, IsTicking, Touches};
+ghost use Rattle.rx_tick.specs.States.{AreStates, IsTurn, AreBeforeDue, AreBeforeRelease, best_of, after_slot};
+ghost use Rattle.rx_tick.specs.Banks.{HasTicked, IsBankOf, IsInHand, IsKept, IsTicking, KeepsMachines, Touches};
 
 use crate::events::Event;
 use crate::looks::{look_at_dues, look_at_releases, pick};
-use crate::objects::{Objects, Operation};
-use crate::states::{Made, State, with_tick};
+use crate::objects::Objects;
+use crate::states::{Made, State};
 use crate::turns::Turn;
 use arrayvec::ArrayVec;
-use rx_port::Bank;
 use rx_set::{Item, Job, TaskSet};
 
 /// Whether two jobs are one.
@@ -69,10 +66,10 @@ fn tell_preemption(
 }
 
 /// Makes a tick of work of a job, which is the last of its item or not.
-fn work(set: &TaskSet, state: State, job: Job, now: u64, bank: &Bank) -> Made
-    requires is { IsTicking set.now now job state bank.now }
-    requires work { IsWorkAt set.now job state.complete }
-    ensures ticked { HasTicked set.now now job state state result bank.now bank.now }
+fn work(set: &TaskSet, state: &State, job: Job, now: u64, objects: &Objects) -> Made
+    requires is { IsTicking set.now now job state.now objects.now }
+    requires work { IsWorkAt set.now job state.now.complete }
+    ensures ticked { HasTicked set.now now job state.now result objects.now objects.now }
     ensures told { decision set.now (slots set.now now) (slot_at set.now now) ≡ [] }
 {
     if state.made + 1 == set.ticks(job, state.complete as u32 + 1) {
@@ -82,77 +79,54 @@ fn work(set: &TaskSet, state: State, job: Job, now: u64, bank: &Bank) -> Made
     }
 }
 
-/// Makes a tick of an operation of a job: the first of an attempt, or the last.
-fn operate(
-    set: &TaskSet,
-    objects: &mut Objects,
-    state: &mut State,
-    operation: Operation,
-    now: u64,
-    events: &mut ArrayVec<Event, 131>,
-) -> Made
-    requires is { IsTicking set.now now operation.job state.old objects.old.bank }
-    requires item { item_at set.now operation.job state.old.complete ≡ Some (Op operation.object operation.call) }
-    requires room { array_vec_len events.old < 131 }
-    ensures ticked { HasTicked set.now now operation.job state.old state.new result objects.old.bank objects.new.bank }
-    ensures told { events.new.items ≡ events.old.items ++ decision set.now (slots set.now now) (slot_at set.now now) }
-    ensures few { array_vec_len events.new ≤ array_vec_len events.old + 1 }
-{
-    if state.made == 0 {
-        objects.begin(set, state, operation, now);
-        return Made::On;
-    }
-    objects.decide(set, *state, operation, now, events)
-}
-
-/// Makes a tick of the item that a job has in hand.
+/// Makes a tick of the item that a job has in hand, which is one of its body's.
 fn make_tick(
     set: &TaskSet,
     objects: &mut Objects,
-    state: &mut State,
+    items: &[Item],
+    state: &State,
     job: Job,
     now: u64,
     events: &mut ArrayVec<Event, 131>,
 ) -> Made
-    requires is { IsTicking set.now now job state.old objects.old.bank }
+    requires is { IsTicking set.now now job state.now objects.old }
+    requires items { items.now ≡ (task_of set.now job).items }
     requires room { array_vec_len events.old < 131 }
-    ensures ticked { HasTicked set.now now job state.old state.new result objects.old.bank objects.new.bank }
+    ensures ticked { HasTicked set.now now job state.now result objects.old objects.new }
     ensures told { events.new.items ≡ events.old.items ++ decision set.now (slots set.now now) (slot_at set.now now) }
     ensures few { array_vec_len events.new ≤ array_vec_len events.old + 1 }
 {
-    match set.tasks()[job.task as usize].body.items()[state.complete] {
-        Item::Work { .. } => work(set, *state, job, now, &objects.bank),
+    match &items[state.complete] {
+        Item::Work { .. } => work(set, state, job, now, objects),
         Item::Op { object, call } => {
-            let operation = Operation { job, object, call };
-            operate(set, objects, state, operation, now, events)
+            objects.operate(set, state, job, *object, call, now, events)
         }
     }
 }
 
-/// Makes a tick of a job, and answers the state of its task after it.
-fn advanced(
+/// Makes a tick of a job, and notes it in the state of its task.
+fn advance(
     set: &TaskSet,
     objects: &mut Objects,
-    old: State,
+    state: &mut State,
     job: Job,
     now: u64,
     events: &mut ArrayVec<Event, 131>,
-) -> State
-    requires is { IsTicking set.now now job old objects.old.bank }
-    requires finished { old.finished < 2 ^ 63 }
+)
+    requires is { IsTicking set.now now job state.old objects.old }
+    requires finished { state.old.finished < 2 ^ 63 }
     requires room { array_vec_len events.old < 131 }
-    ensures state { result ≡ after_slot set.now now job (slot_at set.now now) (with_root result.root old) }
+    ensures state { state.new ≡ after_slot set.now now job (slot_at set.now now) state.old }
     ensures bank { IsBankOf set.now (slot_at set.now now ∷ slots set.now now) objects.new.bank }
-    ensures hand { IsInHand set.now (slot_at set.now now ∷ slots set.now now) objects.new.bank.core job.task result }
-    ensures others { (other : ℕ) → other ≢ job.task → view_at objects.new.bank.core other ≡ view_at objects.old.bank.core other }
-    ensures touches { Touches set.now (slots set.now now) (slot_at set.now now) objects.old.bank.core.counts objects.new.bank.core.counts }
+    ensures hand { IsInHand set.now (slot_at set.now now ∷ slots set.now now) objects.new job.task state.new }
+    ensures machines { KeepsMachines job.task objects.old objects.new }
+    ensures touches { Touches set.now (slots set.now now) (slot_at set.now now) objects.old.bank objects.new.bank }
     ensures told { events.new.items ≡ events.old.items ++ decision set.now (slots set.now now) (slot_at set.now now) }
     ensures few { array_vec_len events.new ≤ array_vec_len events.old + 1 }
 {
-    let mut state = old;
-    let tick = make_tick(set, objects, &mut state, job, now, events);
-    let items = set.tasks()[job.task as usize].body.items().len();
-    with_tick(state, tick, items, now)
+    let items = set.tasks()[job.task as usize].body.items();
+    let tick = make_tick(set, objects, items, state, job, now, events);
+    state.note(tick, items.len(), now);
 }
 
 /// Gives the slot to a job that its task offers, and tells its finish if it is finished by it. Then another job may be
@@ -168,13 +142,13 @@ fn give_slot(
 )
     requires now { now < 2 ^ 40 }
     requires states { AreStates set.now (slots set.now now) (now + 1) states.old }
-    requires kept { IsKept set.now (slots set.now now) states.old objects.old.bank }
+    requires kept { IsKept set.now (slots set.now now) states.old objects.old }
     requires best { turn.old.best ≡ best_of set.now (length set.now.tasks) states.old }
     requires job { turn.old.best ≡ Some job }
     requires room { array_vec_len events.old < 130 }
     ensures states { AreStates set.now (slots set.now (now + 1)) (now + 1) states.new }
-    ensures kept { IsKept set.now (slots set.now (now + 1)) states.new objects.new.bank }
-    ensures touches { Touches set.now (slots set.now now) (slot_at set.now now) objects.old.bank.core.counts objects.new.bank.core.counts }
+    ensures kept { IsKept set.now (slots set.now (now + 1)) states.new objects.new }
+    ensures touches { Touches set.now (slots set.now now) (slot_at set.now now) objects.old.bank objects.new.bank }
     ensures best { turn.new.best ≡ best_of set.now (length set.now.tasks) states.new }
     ensures dues { AreBeforeDue set.now (now + 1) turn.old.next_due states.old → AreBeforeDue set.now (now + 1) turn.new.next_due states.new }
     ensures releases { AreBeforeRelease set.now turn.old.next_release states.old → AreBeforeRelease set.now turn.new.next_release states.new }
@@ -182,10 +156,9 @@ fn give_slot(
     ensures told { events.new.items ≡ events.old.items ++ (decision set.now (slots set.now now) (slot_at set.now now) ++ finish set.now (slots set.now now) (slot_at set.now now)) }
 {
     let task = job.task as usize;
-    let old = states[task];
-    let new = advanced(set, objects, old, job, now, events);
-    states[task] = new;
-    if new.finished == old.finished {
+    let finished = states[task].finished;
+    advance(set, objects, &mut states[task], job, now, events);
+    if states[task].finished == finished {
         return;
     }
     events.push(Event::Finish { at: now, job });
@@ -203,14 +176,14 @@ fn take_slot(
 )
     requires now { now < 2 ^ 40 }
     requires states { AreStates set.now (slots set.now now) (now + 1) states.old }
-    requires kept { IsKept set.now (slots set.now now) states.old objects.old.bank }
+    requires kept { IsKept set.now (slots set.now now) states.old objects.old }
     requires best { turn.old.best ≡ best_of set.now (length set.now.tasks) states.old }
     requires dues { AreBeforeDue set.now (now + 1) turn.old.next_due states.old }
     requires releases { AreBeforeRelease set.now turn.old.next_release states.old }
     requires room { array_vec_len events.old < 130 }
     ensures states { AreStates set.now (slots set.now (now + 1)) (now + 1) states.new }
-    ensures kept { IsKept set.now (slots set.now (now + 1)) states.new objects.new.bank }
-    ensures touches { Touches set.now (slots set.now now) (slot_at set.now now) objects.old.bank.core.counts objects.new.bank.core.counts }
+    ensures kept { IsKept set.now (slots set.now (now + 1)) states.new objects.new }
+    ensures touches { Touches set.now (slots set.now now) (slot_at set.now now) objects.old.bank objects.new.bank }
     ensures turn { IsTurn set.now (now + 1) states.new turn.new }
     ensures told { events.new.items ≡ events.old.items ++ (decision set.now (slots set.now now) (slot_at set.now now) ++ finish set.now (slots set.now now) (slot_at set.now now)) }
 {
@@ -232,12 +205,12 @@ pub fn make_slot(
     requires now { now < 2 ^ 40 }
     requires states { AreStates set.now (slots set.now now) now states.old }
     requires turn { IsTurn set.now now states.old turn.old }
-    requires kept { IsKept set.now (slots set.now now) states.old objects.old.bank }
+    requires kept { IsKept set.now (slots set.now now) states.old objects.old }
     requires empty { events.old.items ≡ [] }
     ensures states { AreStates set.now (slots set.now (now + 1)) (now + 1) states.new }
     ensures turn { IsTurn set.now (now + 1) states.new turn.new }
-    ensures kept { IsKept set.now (slots set.now (now + 1)) states.new objects.new.bank }
-    ensures touches { Touches set.now (slots set.now now) (slot_at set.now now) objects.old.bank.core.counts objects.new.bank.core.counts }
+    ensures kept { IsKept set.now (slots set.now (now + 1)) states.new objects.new }
+    ensures touches { Touches set.now (slots set.now now) (slot_at set.now now) objects.old.bank objects.new.bank }
     ensures slot { turn.new.last ≡ job_in (slot_at set.now now) }
     ensures told { events.new.items ≡ events_of set.now (slots set.now now) (slot_at set.now now) }
 {

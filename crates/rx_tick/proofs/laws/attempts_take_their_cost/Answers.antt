@@ -1,4 +1,4 @@
-use Rattle.rx_tick.proofs.Attempts.{decision_is, decided_begun, decided_cost, lost_spoiled, spoiled_lost}
+use Rattle.rx_tick.proofs.Attempts.{decision_is, decided_begun, decided_cost, decided_amid, lost_spoiled, spoiled_lost}
 use Rattle.rx_tick.proofs.laws.attempts_take_their_cost.Goals as goal
 
 pub returns-clause-begins : goal.returns-clause-begins
@@ -14,6 +14,9 @@ returns-clause-made c = λ system n object job outcome e. (decision_is system n 
 
 pub returns-clause-cost : goal.returns-clause-cost
 returns-clause-cost c = λ system n object job outcome. decided_cost system n job object outcome
+
+pub returns-clause-steps : goal.returns-clause-steps
+returns-clause-steps c = λ system m n object job outcome. decided_amid system m n job object outcome
 
 pub returns-clause-outcome : goal.returns-clause-outcome
 returns-clause-outcome c = λ system n object job outcome e. (lost_spoiled system n job object outcome e, spoiled_lost system n job object outcome e)

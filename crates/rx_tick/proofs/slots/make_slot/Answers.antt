@@ -19,4 +19,4 @@ returns-clause-told c =
     c.tell_preemption.ensures.told c.take_slot.ensures.told
 
 pub take_slot-requires-clause-kept : goal.take_slot-requires-clause-kept
-take_slot-requires-clause-kept c = kept_same c.args.set.now (slots c.args.set.now c.args.now) c.args.states.now c.look_at_releases.new.states c.args.objects.now.bank c.look_at_releases.ensures.same c.requires.kept
+take_slot-requires-clause-kept c = kept_same c.args.set.now (slots c.args.set.now c.args.now) c.args.states.now c.look_at_releases.new.states c.args.objects.now c.look_at_releases.ensures.same c.requires.kept

@@ -19,10 +19,10 @@ pub returns-in_default-clause-states : goal.returns-in_default-clause-states
 returns-in_default-clause-states c = states_idle c.args.set.now c.args.now c.args.states.now c.requires.states (sym c.requires.best ∙ c.in_default.is)
 
 pub returns-in_default-clause-kept : goal.returns-in_default-clause-kept
-returns-in_default-clause-kept c = kept_idle c.args.set.now c.args.now c.args.states.now c.requires.states (sym c.requires.best ∙ c.in_default.is) c.args.objects.now.bank c.requires.kept
+returns-in_default-clause-kept c = kept_idle c.args.set.now c.args.now c.args.states.now c.requires.states (sym c.requires.best ∙ c.in_default.is) c.args.objects.now c.requires.kept
 
 pub returns-in_default-clause-touches : goal.returns-in_default-clause-touches
-returns-in_default-clause-touches c = touches_idle c.args.set.now c.args.now c.args.states.now c.requires.states (sym c.requires.best ∙ c.in_default.is) c.args.objects.now.bank c.requires.kept
+returns-in_default-clause-touches c = touches_idle c.args.set.now c.args.now c.args.states.now c.requires.states (sym c.requires.best ∙ c.in_default.is) c.args.objects.now c.requires.kept
 
 pub returns-in_default-clause-turn : goal.returns-in_default-clause-turn
 returns-in_default-clause-turn c = record {

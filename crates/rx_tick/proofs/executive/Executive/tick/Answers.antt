@@ -13,4 +13,4 @@ returns-clause-events c = c.make_slot.ensures.told ∙ ap (λ (m : Moment). even
 
 pub returns-clause-touches : goal.returns-clause-touches
 returns-clause-touches c =
-    subst (λ (m : Moment). Touches m.system (slots m.system m.time) (slot_at m.system m.time) m.bank.core.counts c.make_slot.new.objects.bank.core.counts) c.self.view_is c.make_slot.ensures.touches
+    subst (λ (m : Moment). Touches m.system (slots m.system m.time) (slot_at m.system m.time) m.bank c.make_slot.new.objects.bank) c.self.view_is c.make_slot.ensures.touches
