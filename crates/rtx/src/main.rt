@@ -10,7 +10,7 @@ ghost use Rattle.std.specs.Prelude.{◌≡◌, ◌≢◌};
 ghost use Rattle.rx_top.specs.declared.status.Status.TheVariants.{WriteFault};
 
 use rx_io::{InSource, OutSink};
-use rx_top::{Status, top};
+use rx_top::{Left, Status, top};
 use std::alloc::Global;
 use std::io::{BufWriter, ErrorKind, Write};
 use std::process::ExitCode;
@@ -60,7 +60,8 @@ fn answer(rt: &(impl Input + Print), alloc: Global, words: &[String]) -> Status 
     };
     let mut source = InSource::new(rt.reader());
     let mut sink = OutSink::new(&mut writer);
-    let status = top(alloc, words, &mut source, &mut sink);
+    let mut left = Left::Nothing;
+    let status = top(alloc, words, &mut source, &mut sink, &mut left);
     finish(status, writer)
 }
 

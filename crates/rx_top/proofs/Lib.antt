@@ -1,4 +1,5 @@
 pub mod Counting
+pub mod Banks
 pub mod Lines
 pub mod Outcomes
 pub mod Writes

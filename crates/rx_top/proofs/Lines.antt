@@ -13,6 +13,11 @@ use Rattle.rx_top.specs.Runs.{lines_of, end_lines, first_objects}
 pub lines_append : (system : System) (xs ys : List Event) → lines_of system (xs ++ ys) ≡ lines_of system xs ++ lines_of system ys
 lines_append system xs ys = flat_map-append (event_line system) xs ys
 
+-- a slot without events has no line
+pub no_lines : (system : System) (n : ℕ) (told : List Event) → told ≡ events_of system (slots system n) (slot_at system n) → told ≡ []
+    → lines_of system (events_of system (slots system n) (slot_at system n)) ≡ []
+no_lines system n told same none = ap (lines_of system) (sym same ∙ none)
+
 -- one more line
 pub lines_next : (system : System) (xs : List Event) (i : ℕ) (d : Event) → i < length xs
     → lines_of system (take (i + 1) xs) ≡ lines_of system (take i xs) ++ event_line system (get_or xs i d)

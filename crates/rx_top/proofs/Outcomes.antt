@@ -8,11 +8,13 @@ use Rattle.std.specs.Io.KnownBytes.{Appends}
 use Rattle.rx_io.specs.Causes.{IsInput}
 use Rattle.rx_set.specs.System.{System}
 use Rattle.rx_file.specs.SetOf.{set_of}
+use Rattle.rx_top.specs.declared.left.Left.{Left}
 use Rattle.rx_top.specs.declared.status.Status.{Status}
 use Rattle.rx_top.specs.declared.status.Status.TheVariants.{Done, Adverse, Words, ReadFault, BadSet, WriteFault, NoMemory}
 use Rattle.rx_top.specs.declared.words.Command.{Command}
 use Rattle.rx_top.specs.declared.words.Command.TheVariants.{Run}
 use Rattle.rx_top.specs.Words.{reads_input}
+use Rattle.rx_top.specs.Leaves.{Leaves}
 use Rattle.rx_top.specs.Outcome.{Ends, Answer, answer, input_answer, file_answer, set_answer, run_answer, most_input, Outcome, Answered, Headline}
 use Rattle.rx_top.specs.Determined.{is_calm, IsDetermined, Determined, Unread}
 
@@ -62,30 +64,32 @@ read_whole command input given (Some rest) reads read =
       | inr few ↦ read_small command input given rest read.taken few (read.end few)
     ]
 
-module _ (command : Option Command) (before after : Ends) where
+module _ (command : Option Command) (before after : Ends) (left : Left) where
   -- an answer to what was read is the answer to the whole input
-  answered_read : (result : Status) (input : List ℕ) → before.left ≡ Some input → reads_input command ≡ true → Answered command before after result
-      → IsDetermined command input before after result (Some (drop (most_input + 1) input))
+  answered_read : (result : Status) (input : List ℕ) → before.left ≡ Some input → reads_input command ≡ true → Answered command before after left result
+      → IsDetermined command input before after left result (Some (drop (most_input + 1) input))
   answered_read result input known reads told =
       let read : IsInput most_input (Some input) after.left told.input = rw (reads, known) at told.read in
       let whole = read_whole command input told.input after.left reads read in record {
         status = told.answer.status ∙ ap (λ (a : Answer). a.status) whole.same;
         written = subst (Appends before.taken after.taken) (told.answer.bytes ∙ ap (λ (a : Answer). a.output) whole.same) told.written;
-        left = whole.rest;
+        bank = subst (λ run. Leaves run left) (ap (λ (a : Answer). a.run) whole.same) told.bank;
+        unread = whole.rest;
       }
 
   -- what is not read stays, and has no part in the answer
-  answered_unread : (result : Status) (input : List ℕ) → reads_input command ≡ false → Answered command before after result
-      → IsDetermined command input before after result before.left
-  answered_unread result input unread told =
-      let same = same_unread command told.input input unread in record {
+  answered_unread : (result : Status) (input : List ℕ) → reads_input command ≡ false → Answered command before after left result
+      → IsDetermined command input before after left result before.left
+  answered_unread result input none told =
+      let same = same_unread command told.input input none in record {
         status = told.answer.status ∙ ap (λ (a : Answer). a.status) same;
         written = subst (Appends before.taken after.taken) (told.answer.bytes ∙ ap (λ (a : Answer). a.output) same) told.written;
-        left = rw unread at told.read;
+        bank = subst (λ run. Leaves run left) (ap (λ (a : Answer). a.run) same) told.bank;
+        unread = rw none at told.read;
       }
 
   -- a calm status is one that is answered
-  calm_answered : (result : Status) → is_calm result ≡ true → Outcome command before after result → Answered command before after result
+  calm_answered : (result : Status) → is_calm result ≡ true → Outcome command before after left result → Answered command before after left result
   calm_answered Done calm told = told
   calm_answered Adverse calm told = told
   calm_answered Words calm told = told
@@ -95,7 +99,7 @@ module _ (command : Option Command) (before after : Ends) where
   calm_answered NoMemory calm told = absurd (true≢false (sym calm))
 
   -- a status is calm where there was memory and no count rose
-  calm_without_faults : (result : Status) → Outcome command before after result → result ≢ NoMemory → after.read_faults ≡ before.read_faults → after.write_faults ≡ before.write_faults
+  calm_without_faults : (result : Status) → Outcome command before after left result → result ≢ NoMemory → after.read_faults ≡ before.read_faults → after.write_faults ≡ before.write_faults
       → is_calm result ≡ true
   calm_without_faults Done told memory reads writes = refl
   calm_without_faults Adverse told memory reads writes = refl
@@ -105,19 +109,20 @@ module _ (command : Option Command) (before after : Ends) where
   calm_without_faults WriteFault told memory reads writes = absurd (omega (arith, told.write_fault, writes))
   calm_without_faults NoMemory told memory reads writes = absurd (memory refl)
 
-  pub determined : (result : Status) → Outcome command before after result → Determined command before after result
+  pub determined : (result : Status) → Outcome command before after left result → Determined command before after left result
   determined result told input known reads calm = answered_read result input known reads (calm_answered result calm told)
 
-  pub unread : (result : Status) → Outcome command before after result → Unread command before after result
+  pub unread : (result : Status) → Outcome command before after left result → Unread command before after left result
   unread result told input none calm = answered_unread result input none (calm_answered result calm told)
 
-pub headline : (command : Option Command) (before after : Ends) (result : Status) → Outcome command before after result → Headline command before after result
-headline command before after result told ticks input system asks known few set memory reads writes =
+pub headline : (command : Option Command) (before after : Ends) (left : Left) (result : Status) → Outcome command before after left result → Headline command before after left result
+headline command before after left result told ticks input system asks known few set memory reads writes =
     let reading : reads_input command ≡ true = ap reads_input asks in
-    let given = determined command before after result told input known reading (calm_without_faults command before after result told memory reads writes) in
+    let given = determined command before after left result told input known reading (calm_without_faults command before after left result told memory reads writes) in
     let same : answer command input ≡ run_answer ticks system =
     ap (λ c. answer c input) asks ∙ fits (run_answer ticks) input few ∙ ap (file_answer (run_answer ticks)) set in record {
-      read = given.left ∙ ap (λ (r : List ℕ). Some r) (drop_of_length-le input {i = most_input + 1} (omega (arith, few)));
+      read = given.unread ∙ ap (λ (r : List ℕ). Some r) (drop_of_length-le input {i = most_input + 1} (omega (arith, few)));
       written = subst (Appends before.taken after.taken) (ap (λ (a : Answer). a.output) same) given.written;
       status = given.status ∙ ap (λ (a : Answer). a.status) same;
+      bank = subst (λ run. Leaves run left) (ap (λ (a : Answer). a.run) same) given.bank;
     }

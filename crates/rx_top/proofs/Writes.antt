@@ -1,8 +1,8 @@
 -- Writes in parts.
-use Rattle.std.proofs.Common.{ℕ, ◌≡◌, List, ◌++◌, Result, Ok, Err, OnOk, subst, sym, arith}
+use Rattle.std.proofs.Common.{ℕ, ◌≡◌, List, [], ◌++◌, Result, Ok, Err, OnOk, refl, subst, sym, arith}
 use Rattle.std.specs.declared.option.Option.{Option}
 use Rattle.std.specs.Io.KnownBytes.{Appends}
-use Rattle.std.proofs.KnownBytes.{Appends-trans}
+use Rattle.std.proofs.KnownBytes.{Appends-nil, Appends-trans}
 use Rattle.rx_io.specs.Causes.{Began, Puts}
 use Rattle.rx_io.proofs.Puts.{began_after, began_wide}
 
@@ -31,6 +31,14 @@ puts_first_cut a b f g x xs ys all first e = record {
   whole = tt;
   part = subst (Began a b) (sym e) (began_wide a b xs ys first.part);
   cause = record { later = first.cause.later; kept = tt; failed = first.cause.failed };
+}
+
+-- nothing was to be taken
+pub puts_nothing : {T E : Type 0} (a : Option (List ℕ)) (f : ℕ) (x : T) (all : List ℕ) → all ≡ [] → Puts {T = T} {E = E} a a f f (Ok x) all
+puts_nothing a f x all none = record {
+  whole = subst (Appends a a) (sym none) (Appends-nil a);
+  part = tt;
+  cause = record { later = omega arith; kept = refl; failed = tt };
 }
 
 -- what holds anyway

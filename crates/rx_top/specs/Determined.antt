@@ -2,9 +2,11 @@
 use Rattle.std.specs.Prelude.{ℕ, ◌≡◌, ◌+◌, Bool, true, false, List, drop, Option, Some}
 use Rattle.std.specs.Io.KnownBytes.{Appends}
 use Rattle.rx_top.specs.declared.words.Command.{Command}
+use Rattle.rx_top.specs.declared.left.Left.{Left}
 use Rattle.rx_top.specs.declared.status.Status.{Status}
 use Rattle.rx_top.specs.declared.status.Status.TheVariants.{Done, Adverse, Words, ReadFault, BadSet, WriteFault, NoMemory}
 use Rattle.rx_top.specs.Words.{reads_input}
+use Rattle.rx_top.specs.Leaves.{Leaves}
 use Rattle.rx_top.specs.Outcome.{Ends, answer, most_input}
 
 -- neither a fault nor want of memory
@@ -17,20 +19,21 @@ is_calm Adverse = true
 is_calm Words = true
 is_calm BadSet = true
 
--- the status and the bytes are those of the words and the input, and this is left
-pub record IsDetermined (command : Option Command) (input : List ℕ) (before after : Ends) (result : Status) (rest : Option (List ℕ)) : Type 0 where
+-- the status, the bytes and the bank are those of the words and the input, and this is the rest of the input
+pub record IsDetermined (command : Option Command) (input : List ℕ) (before after : Ends) (left : Left) (result : Status) (rest : Option (List ℕ)) : Type 0 where
   pub status : result ≡ (answer command input).status
   pub written : Appends before.taken after.taken (answer command input).output
-  pub left : after.left ≡ rest
+  pub bank : Leaves (answer command input).run left
+  pub unread : after.left ≡ rest
 
--- A command that reads its input: the status, the bytes and what is left are those of the words and the input.
-abbrev pub Determined : Option Command → Ends → Ends → Status → Type 0
-Determined command before after result =
+-- A command that reads its input: the status, the bytes, the bank and the rest of the input are those of the words and the input.
+abbrev pub Determined : Option Command → Ends → Ends → Left → Status → Type 0
+Determined command before after left result =
     (input : List ℕ) → before.left ≡ Some input → reads_input command ≡ true → is_calm result ≡ true
-    → IsDetermined command input before after result (Some (drop (most_input + 1) input))
+    → IsDetermined command input before after left result (Some (drop (most_input + 1) input))
 
 -- Words of no shape, and a command that reads nothing: the same, whatever the input, and the source keeps it.
-abbrev pub Unread : Option Command → Ends → Ends → Status → Type 0
-Unread command before after result =
+abbrev pub Unread : Option Command → Ends → Ends → Left → Status → Type 0
+Unread command before after left result =
     (input : List ℕ) → reads_input command ≡ false → is_calm result ≡ true
-    → IsDetermined command input before after result before.left
+    → IsDetermined command input before after left result before.left

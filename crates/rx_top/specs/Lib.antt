@@ -1,5 +1,6 @@
 pub mod Words
 pub mod Runs
+pub mod Leaves
 pub mod Outcome
 pub mod Determined
 pub mod Rows

@@ -6,11 +6,14 @@ use Rattle.rx_set.specs.System.{System}
 use Rattle.rx_file.specs.declared.faults.FileFault.{FileFault}
 use Rattle.rx_file.specs.SetOf.{set_of}
 use Rattle.rx_report.specs.Report.{report, misses_told}
+use Rattle.rx_top.specs.declared.left.Left.{Left}
+use Rattle.rx_top.specs.declared.left.Left.TheVariants.{Nothing}
 use Rattle.rx_top.specs.declared.status.Status.{Status}
 use Rattle.rx_top.specs.declared.status.Status.TheVariants.{Done, Adverse, Words, ReadFault, BadSet, WriteFault, NoMemory}
 use Rattle.rx_top.specs.declared.words.Command.{Command}
 use Rattle.rx_top.specs.declared.words.Command.TheVariants.{Run}
 use Rattle.rx_top.specs.Words.{reads_input}
+use Rattle.rx_top.specs.Leaves.{Ran, Leaves, ran}
 
 -- the exit code of a status
 abbrev pub code_of : Status → ℕ
@@ -32,22 +35,23 @@ pub record Ends : Type 0 where
 abbrev pub ends : Option (List ℕ) → ℕ → Option (List ℕ) → ℕ → Ends
 ends left read_faults taken write_faults = record { left = left; read_faults = read_faults; taken = taken; write_faults = write_faults }
 
--- a status, and all that is written with it
+-- a status, all that is written with it, and the run whose bank is left
 pub record Answer : Type 0 where
   pub status : Status
   pub output : List ℕ
+  pub run : Option Ran
 
 -- the answer to words of no shape
 abbrev pub words_answer : Answer
-words_answer = record { status = Words; output = codes "words\n" }
+words_answer = record { status = Words; output = codes "words\n"; run = None }
 
 -- the answer to an input that is no set
 abbrev pub set_answer : Answer
-set_answer = record { status = BadSet; output = codes "set\n" }
+set_answer = record { status = BadSet; output = codes "set\n"; run = None }
 
 -- the answer of a run of so many slots
 abbrev pub run_answer : ℕ → System → Answer
-run_answer ticks system = record { status = if misses_told system ticks == 0 then Done else Adverse; output = report system ticks }
+run_answer ticks system = record { status = if misses_told system ticks == 0 then Done else Adverse; output = report system ticks; run = Some (ran system ticks) }
 
 -- the answer to what a task file gives, from the answer to its set
 abbrev pub file_answer : (System → Answer) → Result System FileFault → Answer
@@ -77,25 +81,27 @@ abbrev pub Reads : Bool → Ends → Ends → List ℕ → Type 0
 Reads true before after input = IsInput most_input before.left after.left input
 Reads false before after input = after.left ≡ before.left
 
--- Neither count rose, the input was read, and an answer to it was written, all of it and nothing else.
-pub record Answered (command : Option Command) (before after : Ends) (result : Status) : Type 0 where
+-- Neither count rose, the input was read, an answer to it was written, all of it and nothing else, and the bank of its run is left.
+pub record Answered (command : Option Command) (before after : Ends) (left : Left) (result : Status) : Type 0 where
   pub input : List ℕ
   pub output : List ℕ
   pub read : Reads (reads_input command) before after input
+  pub bank : Leaves (answer command input).run left
   pub answer : IsAnswer command input result output
   pub written : Appends before.taken after.taken output
   pub no_read_fault : after.read_faults ≡ before.read_faults
   pub no_write_fault : after.write_faults ≡ before.write_faults
 
--- The source failed. The command reads its input, and nothing was written.
-pub record ReadFailed (command : Option Command) (before after : Ends) : Type 0 where
+-- The source failed. The command reads its input, and nothing was written or is left.
+pub record ReadFailed (command : Option Command) (before after : Ends) (left : Left) : Type 0 where
   pub reads : reads_input command ≡ true
   pub read_fault : before.read_faults < after.read_faults
   pub written : Keeps before.taken after.taken
   pub no_write_fault : after.write_faults ≡ before.write_faults
+  pub nothing : left ≡ Nothing
 
--- The sink failed. The input was read, and a front of an answer to it was written.
-pub record WriteFailed (command : Option Command) (before after : Ends) : Type 0 where
+-- The sink failed. The input was read, a front of an answer to it was written, and nothing is left.
+pub record WriteFailed (command : Option Command) (before after : Ends) (left : Left) : Type 0 where
   pub input : List ℕ
   pub status : Status
   pub output : List ℕ
@@ -104,59 +110,65 @@ pub record WriteFailed (command : Option Command) (before after : Ends) : Type 0
   pub written : Began before.taken after.taken output
   pub no_read_fault : after.read_faults ≡ before.read_faults
   pub write_fault : before.write_faults < after.write_faults
+  pub nothing : left ≡ Nothing
 
--- There was no memory. The words have a shape, and nothing was written.
-pub record Starved (command : Option Command) (before after : Ends) : Type 0 where
+-- There was no memory. The words have a shape, and nothing was written or is left.
+pub record Starved (command : Option Command) (before after : Ends) (left : Left) : Type 0 where
   pub shape : IsSome command
   pub written : Keeps before.taken after.taken
   pub no_read_fault : after.read_faults ≡ before.read_faults
   pub no_write_fault : after.write_faults ≡ before.write_faults
+  pub nothing : left ≡ Nothing
 
 -- What holds at each status.
-abbrev pub Outcome : Option Command → Ends → Ends → Status → Type 0
-Outcome command before after ReadFault = ReadFailed command before after
-Outcome command before after WriteFault = WriteFailed command before after
-Outcome command before after NoMemory = Starved command before after
-Outcome command before after Done = Answered command before after Done
-Outcome command before after Adverse = Answered command before after Adverse
-Outcome command before after Words = Answered command before after Words
-Outcome command before after BadSet = Answered command before after BadSet
+abbrev pub Outcome : Option Command → Ends → Ends → Left → Status → Type 0
+Outcome command before after left ReadFault = ReadFailed command before after left
+Outcome command before after left WriteFault = WriteFailed command before after left
+Outcome command before after left NoMemory = Starved command before after left
+Outcome command before after left Done = Answered command before after left Done
+Outcome command before after left Adverse = Answered command before after left Adverse
+Outcome command before after left Words = Answered command before after left Words
+Outcome command before after left BadSet = Answered command before after left BadSet
 
--- What a command does to the sink alone once its input is read: it writes its answer,
-pub record Told (answer : Answer) (old new : Option (List ℕ)) (before after : ℕ) (result : Status) : Type 0 where
+-- What a command does to the sink alone once its input is read, and what it leaves: it writes its answer and leaves the bank of its run,
+pub record Told (answer : Answer) (old new : Option (List ℕ)) (before after : ℕ) (left : Left) (result : Status) : Type 0 where
   pub status : result ≡ answer.status
+  pub bank : Leaves answer.run left
   pub written : Appends old new answer.output
   pub no_fault : after ≡ before
 
--- or a front of it, since the sink failed,
-pub record Cut (answer : Answer) (old new : Option (List ℕ)) (before after : ℕ) : Type 0 where
+-- or a front of it, since the sink failed, and leaves nothing,
+pub record Cut (answer : Answer) (old new : Option (List ℕ)) (before after : ℕ) (left : Left) : Type 0 where
   pub written : Began old new answer.output
   pub fault : before < after
+  pub nothing : left ≡ Nothing
 
 -- or nothing, since there was no memory.
-pub record Silent (old new : Option (List ℕ)) (before after : ℕ) : Type 0 where
+pub record Silent (old new : Option (List ℕ)) (before after : ℕ) (left : Left) : Type 0 where
   pub written : Keeps old new
   pub no_fault : after ≡ before
+  pub nothing : left ≡ Nothing
 
-abbrev pub Tells : Answer → Option (List ℕ) → Option (List ℕ) → ℕ → ℕ → Status → Type 0
-Tells answer old new before after ReadFault = ⊥
-Tells answer old new before after WriteFault = Cut answer old new before after
-Tells answer old new before after NoMemory = Silent old new before after
-Tells answer old new before after Done = Told answer old new before after Done
-Tells answer old new before after Adverse = Told answer old new before after Adverse
-Tells answer old new before after Words = Told answer old new before after Words
-Tells answer old new before after BadSet = Told answer old new before after BadSet
+abbrev pub Tells : Answer → Option (List ℕ) → Option (List ℕ) → ℕ → ℕ → Left → Status → Type 0
+Tells answer old new before after left ReadFault = ⊥
+Tells answer old new before after left WriteFault = Cut answer old new before after left
+Tells answer old new before after left NoMemory = Silent old new before after left
+Tells answer old new before after left Done = Told answer old new before after left Done
+Tells answer old new before after left Adverse = Told answer old new before after left Adverse
+Tells answer old new before after left Words = Told answer old new before after left Words
+Tells answer old new before after left BadSet = Told answer old new before after left BadSet
 
--- All of the input was read, the bytes taken are those of the report and no others, and the status says whether there is a miss.
-pub record Reported (system : System) (ticks : ℕ) (before after : Ends) (result : Status) : Type 0 where
+-- All of the input was read, the bytes taken are those of the report and no others, the status says whether there is a miss, and the bank is that of the run.
+pub record Reported (system : System) (ticks : ℕ) (before after : Ends) (left : Left) (result : Status) : Type 0 where
   pub read : after.left ≡ Some []
   pub written : Appends before.taken after.taken (report system ticks)
   pub status : result ≡ (if misses_told system ticks == 0 then Done else Adverse)
+  pub bank : Leaves (Some (ran system ticks)) left
 
--- The headline: `run` on an input that is a set, given memory and no fault, writes the schedule of that set.
-abbrev pub Headline : Option Command → Ends → Ends → Status → Type 0
-Headline command before after result =
+-- The headline: `run` on an input that is a set, given memory and no fault, writes the schedule of that set, and leaves its bank.
+abbrev pub Headline : Option Command → Ends → Ends → Left → Status → Type 0
+Headline command before after left result =
     (ticks : ℕ) (input : List ℕ) (system : System)
     → command ≡ Some (Run ticks) → before.left ≡ Some input → length input ≤ most_input → set_of input ≡ Ok system
     → result ≢ NoMemory → after.read_faults ≡ before.read_faults → after.write_faults ≡ before.write_faults
-    → Reported system ticks before after result
+    → Reported system ticks before after left result

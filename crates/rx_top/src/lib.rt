@@ -4,6 +4,7 @@
 //! of `specs/Outcome.antt`, and each status has its cause in `Outcome` there.
 #![tactic(auto)]
 
+mod left;
 mod runs;
 mod status;
 #[cfg(test)]
@@ -11,5 +12,6 @@ mod tests;
 mod tops;
 mod words;
 
+pub use left::Left;
 pub use status::Status;
 pub use tops::top;

@@ -9,6 +9,7 @@ ghost use Rattle.rx_tick.specs.Events.{events, events_of, misses};
 ghost use Rattle.rx_tick.specs.Counts.{AreBelow, counted, zeros};
 ghost use Rattle.rx_report.specs.Lines.{total_line};
 ghost use Rattle.rx_report.specs.Report.{report, run_totals, misses_told, object_line_after};
+ghost use Rattle.rx_top.specs.Leaves.{IsBankLeft};
 ghost use Rattle.rx_top.specs.Runs.{lines_of, AreCounts, end_lines, first_objects};
 
 use rx_io::{Failed, Sink, put};
@@ -16,6 +17,7 @@ use rx_port::Bank;
 use rx_report::{Line, event_line, object_line, total_line};
 use rx_seq::State;
 use rx_set::TaskSet;
+use rx_tick::laws::replies_and_retries_are_told;
 use rx_tick::{Event, Executive, Tick, Totals};
 
 /// Counts events, and hands in the line of each.
@@ -75,6 +77,9 @@ fn write_slot<K: Sink>(
 {
     executive.tick(tick);
     totals.slot(tick.slot.is_some());
+    if tick.events.is_empty() {
+        return Ok(());
+    }
     put_events(set, tick.events.as_slice(), totals, line, sink)
 }
 
@@ -178,20 +183,29 @@ fn write_end<K: Sink>(
     }
 }
 
+/// What a run leaves.
+pub(crate) struct Ended {
+    /// How many misses its report tells.
+    pub missed: u64,
+    /// The bank on which it made its attempts.
+    pub bank: Bank,
+}
+
 /// Runs an executive from its start for so many slots, hands in the report line by line, and answers how many misses
-/// it tells. It takes no memory.
+/// it tells, with the bank. It takes no memory.
 pub(crate) fn write_run<K: Sink>(
     set: &TaskSet,
     mut executive: Executive,
     ticks: u64,
     sink: &mut K,
-) -> Result<u64, Failed>
+) -> Result<Ended, Failed>
     requires faults { K.faults sink.old < 2 ^ 63 }
     requires ticks { ticks ≤ 1000000 }
     requires start { executive ≡ moment set.now 0 executive.bank }
     ensures puts { Puts (K.taken sink.old) (K.taken sink.new) (K.faults sink.old) (K.faults sink.new)
         result (report set.now ticks) }
-    ensures misses { IfOk result (λ n. n ≡ misses_told set.now ticks) }
+    ensures misses { IfOk result (λ ended. ended.missed ≡ misses_told set.now ticks) }
+    ensures bank { IfOk result (λ ended. IsBankLeft set.now ticks ended.bank) }
 {
     let mut tick = Tick::new();
     let mut totals = Totals::new();
@@ -209,16 +223,21 @@ pub(crate) fn write_run<K: Sink>(
         Err(Failed) => return Err(Failed),
     }
     executive.late(&mut tick);
+    replies_and_retries_are_told();
+    let bank = executive.into_bank();
     match write_end(
         set,
-        &executive.into_bank(),
+        &bank,
         ticks,
         tick.events.as_slice(),
         &mut totals,
         &mut line,
         sink,
     ) {
-        Ok(()) => Ok(totals.missed),
+        Ok(()) => Ok(Ended {
+            missed: totals.missed,
+            bank,
+        }),
         Err(Failed) => Err(Failed),
     }
 }

@@ -1,5 +1,7 @@
 use super::*;
 use rx_io::{Failed, InSource, MemorySink, MemorySource, OutSink, Source};
+use rx_port::Counts;
+use rx_seq::State;
 use std::alloc::{AllocError, Global};
 use std::io;
 use std::io::{ErrorKind, Read, Write};
@@ -47,6 +49,34 @@ const CALLS: &str =
 const REPLIES: &str =
     "0 release t 1\n1 reply t 1 1 set c 16777215 -> done 16777215 tag 1\n3 reply t 1 2 add c 1 -> over tag 2\n5 reply t 1 3 swap c 16777215 0 -> done 0 tag 3\n7 reply t 1 4 swap c 5 6 -> differs 0 tag 4\n7 finish t 1\nobject c cell tag 4 state 0\ntotal ticks 8 idle 0 released 1 finished 1 replies 4 retries 0 preempted 0 missed 0\n";
 
+// Two preemptions nested in the attempts of one queue: each outer attempt is lost once.
+const NESTED: &str =
+    "object = [{name=\"q\", kind=\"queue\", capacity=1}]\ntask = [{name=\"a\", period=100, offset=4, body=[\"put q 7\"]}, {name=\"b\", period=200, offset=2, body=[\"take q\"]}, {name=\"c\", period=400, body=[\"take q\"]}]\n";
+
+const NESTED_REPORT: &str =
+    "0 release c 1\n2 release b 1\n2 preempt c 1 by b 1\n4 release a 1\n4 preempt b 1 by a 1\n11 reply a 1 1 put q 7 -> done 1 tag 1\n11 finish a 1\n17 retry b 1 1 q tag 0 now 1\n25 reply b 1 1 take q -> done 7 tag 2\n25 finish b 1\n31 retry c 1 1 q tag 0 now 2\n39 reply c 1 1 take q -> empty tag 3\n39 finish c 1\nobject q queue tag 3 state\ntotal ticks 50 idle 10 released 3 finished 3 replies 3 retries 2 preempted 2 missed 0\n";
+
+// Each reply of a queue of one place.
+const QUEUE: &str =
+    "object = [{name=\"q\", kind=\"queue\", capacity=1}]\ntask = [{name=\"t\", period=100, body=[\"put q 5\", \"put q 6\", \"take q\", \"take q\"]}]\n";
+
+const QUEUE_REPORT: &str =
+    "0 release t 1\n7 reply t 1 1 put q 5 -> done 1 tag 1\n15 reply t 1 2 put q 6 -> full tag 2\n23 reply t 1 3 take q -> done 5 tag 3\n31 reply t 1 4 take q -> empty tag 4\n31 finish t 1\nobject q queue tag 4 state\ntotal ticks 40 idle 8 released 1 finished 1 replies 4 retries 0 preempted 0 missed 0\n";
+
+// Each reply of a list of one place.
+const LIST: &str =
+    "object = [{name=\"l\", kind=\"list\", capacity=1}]\ntask = [{name=\"t\", period=100, body=[\"insert l 3\", \"insert l 3\", \"insert l 4\", \"has l 3\", \"remove l 3\", \"remove l 3\", \"has l 3\"]}]\n";
+
+const LIST_REPORT: &str =
+    "0 release t 1\n7 reply t 1 1 insert l 3 -> added tag 1\n15 reply t 1 2 insert l 3 -> present tag 2\n23 reply t 1 3 insert l 4 -> full tag 3\n31 reply t 1 4 has l 3 -> yes tag 4\n39 reply t 1 5 remove l 3 -> removed tag 5\n47 reply t 1 6 remove l 3 -> absent tag 6\n55 reply t 1 7 has l 3 -> no tag 7\n55 finish t 1\nobject l list tag 7 state\ntotal ticks 56 idle 0 released 1 finished 1 replies 7 retries 0 preempted 0 missed 0\n";
+
+// Registers: transactions, a read and two shifts.
+const REGISTERS: &str =
+    "object = [{name=\"r\", kind=\"registers\", capacity=4}]\ntask = [{name=\"t\", period=100, body=[\"multi r 0 0 5 1 0 6 2 0 7 3 0 8\", \"multi r 0 5 1 1 6 1 2 9 1 3 8 1\", \"read r 2\", \"shift r 3 0 8\", \"shift r 3 0 1\"]}]\n";
+
+const REGISTERS_REPORT: &str =
+    "0 release t 1\n13 reply t 1 1 multi r 0 0 5 1 0 6 2 0 7 3 0 8 -> done 4 tag 1\n27 reply t 1 2 multi r 0 5 1 1 6 1 2 9 1 3 8 1 -> differs 7 tag 2\n41 reply t 1 3 read r 2 -> done 7 tag 3\n55 reply t 1 4 shift r 3 0 8 -> done 13 tag 4\n69 reply t 1 5 shift r 3 0 1 -> short 0 tag 5\n69 finish t 1\nobject r registers tag 5 state 13 6 7 0\ntotal ticks 70 idle 0 released 1 finished 1 replies 5 retries 0 preempted 0 missed 0\n";
+
 fn split(alloc: Global, text: &str) -> Result<Vec<String>, AllocError> {
     let mut words = Vec::new(alloc);
     for word in text.split(' ') {
@@ -69,6 +99,18 @@ fn answers_words_and_input(rt: HostRuntime) -> Result<(), Fail> {
         ("run 8", TWO, 4096, 0, 0, Status::Done, TWICE),
         ("run 5", APART, 4096, 0, 0, Status::Done, WON),
         ("run 8", CALLS, 4096, 0, 0, Status::Done, REPLIES),
+        ("run 50", NESTED, 4096, 0, 0, Status::Done, NESTED_REPORT),
+        ("run 40", QUEUE, 4096, 0, 0, Status::Done, QUEUE_REPORT),
+        ("run 56", LIST, 4096, 0, 0, Status::Done, LIST_REPORT),
+        (
+            "run 70",
+            REGISTERS,
+            4096,
+            0,
+            0,
+            Status::Done,
+            REGISTERS_REPORT,
+        ),
         ("run 10", "", 4096, 0, 0, Status::BadSet, "set\n"),
         ("run 10", FILE, 4096, 1, 0, Status::ReadFault, ""),
         ("run 10", FILE, 4096, 0, 1, Status::WriteFault, ""),
@@ -90,7 +132,8 @@ fn answers_words_and_input(rt: HostRuntime) -> Result<(), Fail> {
         let mut source = MemorySource::new(bytes, step, [read_fails].to_vec(alloc)?);
         let made = MemorySink::new(alloc, 4096, step, [write_fails].to_vec(alloc)?);
         let mut sink = made.map_err(|_| "no memory")?;
-        let status = top(alloc, words.as_slice(), &mut source, &mut sink);
+        let mut left = Left::Nothing;
+        let status = top(alloc, words.as_slice(), &mut source, &mut sink, &mut left);
         assert_eq!(rt; status, want);
         assert_eq!(rt; sink.taken(), taken.as_bytes());
     }
@@ -104,8 +147,9 @@ fn words_of_no_shape_leave_the_source(rt: HostRuntime) -> Result<(), Fail> {
     let mut source = MemorySource::new(b"abc".as_slice().to_vec(alloc)?, 4096, [1].to_vec(alloc)?);
     let made = MemorySink::new(alloc, 4096, 4096, Vec::new(alloc));
     let mut sink = made.map_err(|_| "no memory")?;
+    let mut left = Left::Nothing;
     assert_eq!(rt;
-        top(alloc, words.as_slice(), &mut source, &mut sink),
+        top(alloc, words.as_slice(), &mut source, &mut sink, &mut left),
         Status::Words
     );
     assert_eq!(rt; sink.taken(), b"words\n".as_slice());
@@ -166,12 +210,127 @@ fn nothing_is_called_after_a_failure(rt: HostRuntime) -> Result<(), Fail> {
     for (fails, status, writes) in [(true, Status::ReadFault, 0), (false, Status::WriteFault, 2)] {
         let mut source = InSource::new(Short { calls: 0, fails });
         let mut sink = OutSink::new(Full { calls: 0 });
+        let mut left = Left::Nothing;
         assert_eq!(rt;
-            top(alloc, words.as_slice(), &mut source, &mut sink),
+            top(alloc, words.as_slice(), &mut source, &mut sink, &mut left),
             status
         );
         assert_eq!(rt; source.into_inner().calls, 2);
         assert_eq!(rt; sink.into_inner().calls, writes);
+    }
+    Ok(())
+}
+
+// Calls `top` on the words and the input. The calls of the source and of the sink with these numbers fail, and none
+// where the number is 0.
+fn call(
+    alloc: Global,
+    text: &str,
+    input: &str,
+    read_fails: u64,
+    write_fails: u64,
+    left: &mut Left,
+) -> Result<Status, Fail> {
+    let words = split(alloc, text)?;
+    let bytes = input.as_bytes().to_vec(alloc)?;
+    let mut source = MemorySource::new(bytes, 4096, [read_fails].to_vec(alloc)?);
+    let made = MemorySink::new(alloc, 4096, 4096, [write_fails].to_vec(alloc)?);
+    let mut sink = made.map_err(|_| "no memory")?;
+    Ok(top(alloc, words.as_slice(), &mut source, &mut sink, left))
+}
+
+// The counts of the bank that is left, and the tag and the state of its first object.
+fn first_object(left: &Left) -> Option<(Counts, u64, State)> {
+    match left {
+        Left::Nothing => None,
+        Left::Bank { bank } => {
+            if bank.layout().parts().is_empty() {
+                return None;
+            }
+            let mut state = State::new();
+            bank.state(0, &mut state);
+            Some((bank.counts(), bank.tag(0), state))
+        }
+    }
+}
+
+#[test]
+fn leaves_the_bank_of_its_run(rt: HostRuntime) -> Result<(), Fail> {
+    let alloc = rt.alloc();
+    // There is one exchange for each reply and each retry, and one load for each attempt that has begun.
+    for (words, input, loads, exchanges, tag, value) in [
+        ("run 10", SHARED, 3, 3, 2, 6),
+        ("run 3", SHARED, 2, 0, 0, 0),
+        ("run 0", SHARED, 0, 0, 0, 0),
+        ("run 8", TWO, 4, 4, 3, 3),
+        ("run 8", CALLS, 4, 4, 4, 0),
+    ] {
+        let mut left = Left::Nothing;
+        assert_eq!(rt; call(alloc, words, input, 0, 0, &mut left)?, Status::Done);
+        let Some((counts, its_tag, state)) = first_object(&left) else {
+            return Err("no bank".into());
+        };
+        let want = Counts {
+            loads,
+            stores: 0,
+            exchanges,
+        };
+        assert_eq!(rt; counts, want);
+        assert_eq!(rt; its_tag, tag);
+        assert_eq!(rt; state.as_slice(), [value].as_slice());
+    }
+    Ok(())
+}
+
+#[test]
+fn leaves_the_bank_of_each_kind(rt: HostRuntime) -> Result<(), Fail> {
+    let alloc = rt.alloc();
+    // The last number is that of the slots of all attempts, each of which was decided.
+    for (words, input, attempts, tag, want, slots) in [
+        ("run 50", NESTED, 5, 3, [].as_slice(), 40),
+        ("run 40", QUEUE, 4, 4, [].as_slice(), 32),
+        ("run 56", LIST, 7, 7, [].as_slice(), 56),
+        ("run 70", REGISTERS, 5, 5, [13, 6, 7, 0].as_slice(), 70),
+    ] {
+        let mut left = Left::Nothing;
+        assert_eq!(rt; call(alloc, words, input, 0, 0, &mut left)?, Status::Done);
+        let Some((counts, its_tag, state)) = first_object(&left) else {
+            return Err("no bank".into());
+        };
+        assert_eq!(rt; counts.exchanges, attempts);
+        assert!(rt; counts.loads >= attempts);
+        let events = counts
+            .loads
+            .saturating_add(counts.stores)
+            .saturating_add(attempts);
+        assert!(rt; events <= slots);
+        assert_eq!(rt; its_tag, tag);
+        assert_eq!(rt; state.as_slice(), want);
+    }
+    Ok(())
+}
+
+#[test]
+fn leaves_nothing_without_a_report(rt: HostRuntime) -> Result<(), Fail> {
+    let alloc = rt.alloc();
+    for (words, input, read_fails, write_fails, want) in [
+        ("runs 10", SHARED, 0, 0, Status::Words),
+        ("run 10", SHARED, 1, 0, Status::ReadFault),
+        ("run 10", "", 0, 0, Status::BadSet),
+        ("run 10", SHARED, 0, 1, Status::WriteFault),
+        ("run 10", SHARED, 0, 10, Status::WriteFault),
+    ] {
+        let mut left = Left::Nothing;
+        assert_eq!(rt;
+            call(alloc, "run 6", OVERLOAD, 0, 0, &mut left)?,
+            Status::Adverse
+        );
+        assert!(rt; matches!(left, Left::Bank { .. }));
+        assert_eq!(rt;
+            call(alloc, words, input, read_fails, write_fails, &mut left)?,
+            want
+        );
+        assert!(rt; matches!(left, Left::Nothing));
     }
     Ok(())
 }

@@ -1,15 +1,16 @@
 //! The top call.
 ghost use Rattle.std.specs.Prelude.{◌≡◌, ◌<◌, ◌≤◌, ◌^◌, [], map, string_bytes, Some, IfOk};
 ghost use Rattle.rx_port.specs.Seats.{no_counts};
-ghost use Rattle.rx_set.specs.System.{AreCells};
 ghost use Rattle.rx_tick.specs.Banks.{IsBankOf};
 ghost use Rattle.rx_tick.specs.Executive.{moment};
 ghost use Rattle.std.specs.Option.{ForSome};
+ghost use Rattle.rx_top.specs.declared.left.Left.TheVariants.{Nothing};
 ghost use Rattle.rx_top.specs.Words.{command_of, IsLimited};
 ghost use Rattle.rx_top.specs.Outcome.{Outcome, Headline, Tells, ends, input_answer, run_answer, set_answer};
 ghost use Rattle.rx_top.specs.Determined.{Determined, Unread};
 
-use crate::runs::write_run;
+use crate::left::Left;
+use crate::runs::{Ended, write_run};
 use crate::status::Status;
 use crate::words::{Command, command_of};
 use arrayvec::ArrayVec;
@@ -40,6 +41,9 @@ const MOST_INPUT: usize = 1_048_576;
 /// - `WriteFault`: only where the sink failed in this call. A front of what was to be written was taken.
 /// - `NoMemory`: may come for any words that have a shape. Nothing was written.
 ///
+/// At `Done` and `Adverse`, `left` is the bank of the executive whose report was written: it stands for the history of
+/// that schedule. At each other status it is `Nothing`, whatever it was before.
+///
 /// Where the status is another than `ReadFault`, `WriteFault` and `NoMemory`, neither the source nor the sink failed, and
 /// an input that is read and not too large is read to its end. Lines are handed to the sink one at a time, and the rest of a line again
 /// where the sink took less. After a failure no further call of either is made, which no clause says but tests show.
@@ -51,33 +55,35 @@ pub fn top<S: Source, K: Sink>(
     words: &[String],
     source: &mut S,
     sink: &mut K,
+    left: &mut Left,
 ) -> Status
     requires source { S.faults source.old < 2 ^ 63 }
     requires sink { K.faults sink.old < 2 ^ 63 }
 
-    // Each status has its cause, with all that was read and written.
+    // Each status has its cause, with all that was read and written, and what is left.
     ensures outcome { Outcome (command_of (map string_bytes words.now))
         (ends (S.left source.old) (S.faults source.old) (K.taken sink.old) (K.faults sink.old))
         (ends (S.left source.new) (S.faults source.new) (K.taken sink.new) (K.faults sink.new))
-        result }
+        left.new result }
 
     // A command that reads gives the one answer to its input, and words of no shape theirs.
     ensures determined { Determined (command_of (map string_bytes words.now))
         (ends (S.left source.old) (S.faults source.old) (K.taken sink.old) (K.faults sink.old))
         (ends (S.left source.new) (S.faults source.new) (K.taken sink.new) (K.faults sink.new))
-        result }
+        left.new result }
     ensures unread { Unread (command_of (map string_bytes words.now))
         (ends (S.left source.old) (S.faults source.old) (K.taken sink.old) (K.faults sink.old))
         (ends (S.left source.new) (S.faults source.new) (K.taken sink.new) (K.faults sink.new))
-        result }
+        left.new result }
 
-    // Given memory and no fault, `run` on a set writes the report of its schedule.
+    // Given memory and no fault, `run` on a set writes the report of its schedule, and leaves its bank.
     ensures headline { Headline (command_of (map string_bytes words.now))
         (ends (S.left source.old) (S.faults source.old) (K.taken sink.old) (K.faults sink.old))
         (ends (S.left source.new) (S.faults source.new) (K.taken sink.new) (K.faults sink.new))
-        result }
+        left.new result }
 {
-    answer_words(alloc, command_of(words), source, sink)
+    *left = Left::Nothing;
+    answer_words(alloc, command_of(words), source, sink, left)
 }
 
 /// Answers the command, or says that there is none.
@@ -86,17 +92,19 @@ fn answer_words<S: Source, K: Sink>(
     command: Option<Command>,
     source: &mut S,
     sink: &mut K,
+    left: &mut Left,
 ) -> Status
     requires source { S.faults source.old < 2 ^ 63 }
     requires sink { K.faults sink.old < 2 ^ 63 }
     requires limits { ForSome command IsLimited }
+    requires nothing { left.old ≡ Nothing }
     ensures { Outcome command
         (ends (S.left source.old) (S.faults source.old) (K.taken sink.old) (K.faults sink.old))
         (ends (S.left source.new) (S.faults source.new) (K.taken sink.new) (K.faults sink.new))
-        result }
+        left.new result }
 {
     match command {
-        Some(command) => answer_command(alloc, command, source, sink),
+        Some(command) => answer_command(alloc, command, source, sink, left),
         None => match put(sink, b"words\n") {
             Ok(()) => Status::Words,
             Err(Failed) => Status::WriteFault,
@@ -110,17 +118,19 @@ fn answer_command<S: Source, K: Sink>(
     command: Command,
     source: &mut S,
     sink: &mut K,
+    left: &mut Left,
 ) -> Status
     requires source { S.faults source.old < 2 ^ 63 }
     requires sink { K.faults sink.old < 2 ^ 63 }
     requires limits { IsLimited command }
+    requires nothing { left.old ≡ Nothing }
     ensures { Outcome (Some command)
         (ends (S.left source.old) (S.faults source.old) (K.taken sink.old) (K.faults sink.old))
         (ends (S.left source.new) (S.faults source.new) (K.taken sink.new) (K.faults sink.new))
-        result }
+        left.new result }
 {
     match command {
-        Command::Run { ticks } => run_command(alloc, ticks, source, sink),
+        Command::Run { ticks } => run_command(alloc, ticks, source, sink, left),
     }
 }
 
@@ -130,34 +140,43 @@ fn run_command<S: Source, K: Sink>(
     ticks: u64,
     source: &mut S,
     sink: &mut K,
+    left: &mut Left,
 ) -> Status
     requires source { S.faults source.old < 2 ^ 63 }
     requires sink { K.faults sink.old < 2 ^ 63 }
     requires limits { ticks ≤ 1000000 }
+    requires nothing { left.old ≡ Nothing }
     ensures { Outcome (Some (Command.Run ticks))
         (ends (S.left source.old) (S.faults source.old) (K.taken sink.old) (K.faults sink.old))
         (ends (S.left source.new) (S.faults source.new) (K.taken sink.new) (K.faults sink.new))
-        result }
+        left.new result }
 {
     match read_all(alloc, source, MOST_INPUT) {
-        Ok(input) => run_input(alloc, ticks, input.as_slice(), sink),
+        Ok(input) => run_input(alloc, ticks, input.as_slice(), sink, left),
         Err(ReadError::Fault) => Status::ReadFault,
         Err(ReadError::Memory) => Status::NoMemory,
     }
 }
 
 /// Runs the set of an input.
-fn run_input<K: Sink>(alloc: Global, ticks: u64, input: &[u8], sink: &mut K) -> Status
+fn run_input<K: Sink>(
+    alloc: Global,
+    ticks: u64,
+    input: &[u8],
+    sink: &mut K,
+    left: &mut Left,
+) -> Status
     requires sink { K.faults sink.old < 2 ^ 63 }
     requires limits { ticks ≤ 1000000 }
+    requires nothing { left.old ≡ Nothing }
     ensures { Tells (input_answer (run_answer ticks) input.now)
-        (K.taken sink.old) (K.taken sink.new) (K.faults sink.old) (K.faults sink.new) result }
+        (K.taken sink.old) (K.taken sink.new) (K.faults sink.old) (K.faults sink.new) left.new result }
 {
     if input.len() > MOST_INPUT {
         return refuse(sink);
     }
     match read_set(alloc, input) {
-        Ok(set) => run_set(alloc, ticks, &set, sink),
+        Ok(set) => run_set(alloc, ticks, &set, sink, left),
         Err(FileFault::NoMemory) => Status::NoMemory,
         Err(_) => refuse(sink),
     }
@@ -167,7 +186,7 @@ fn run_input<K: Sink>(alloc: Global, ticks: u64, input: &[u8], sink: &mut K) -> 
 fn refuse<K: Sink>(sink: &mut K) -> Status
     requires { K.faults sink.old < 2 ^ 63 }
     ensures { Tells set_answer
-        (K.taken sink.old) (K.taken sink.new) (K.faults sink.old) (K.faults sink.new) result }
+        (K.taken sink.old) (K.taken sink.new) (K.faults sink.old) (K.faults sink.new) Nothing result }
 {
     match put(sink, b"set\n") {
         Ok(()) => Status::BadSet,
@@ -188,7 +207,6 @@ fn new_bank(alloc: Global, set: &TaskSet) -> Result<Bank, NoMemory>
 
 /// The executive of a set before its first slot.
 fn new_executive<'s>(alloc: Global, set: &'s TaskSet) -> Result<Executive<'s>, NoMemory>
-    requires { AreCells set.now }
     ensures start { IfOk result (λ executive. executive ≡ moment set.now 0 executive.bank) }
     ensures counts { IfOk result (λ executive. executive.bank.core.counts ≡ Some no_counts) }
 {
@@ -196,21 +214,33 @@ fn new_executive<'s>(alloc: Global, set: &'s TaskSet) -> Result<Executive<'s>, N
     Executive::new(alloc, set, bank)
 }
 
-/// Runs a set, whose objects are cells.
-fn run_set<K: Sink>(alloc: Global, ticks: u64, set: &TaskSet, sink: &mut K) -> Status
+/// Runs a set.
+fn run_set<K: Sink>(
+    alloc: Global,
+    ticks: u64,
+    set: &TaskSet,
+    sink: &mut K,
+    left: &mut Left,
+) -> Status
     requires sink { K.faults sink.old < 2 ^ 63 }
     requires limits { ticks ≤ 1000000 }
-    requires cells { AreCells set.now }
+    requires nothing { left.old ≡ Nothing }
     ensures { Tells (run_answer ticks set.now)
-        (K.taken sink.old) (K.taken sink.new) (K.faults sink.old) (K.faults sink.new) result }
+        (K.taken sink.old) (K.taken sink.new) (K.faults sink.old) (K.faults sink.new) left.new result }
 {
     let executive = match new_executive(alloc, set) {
         Ok(executive) => executive,
         Err(_) => return Status::NoMemory,
     };
     match write_run(set, executive, ticks, sink) {
-        Ok(0) => Status::Done,
-        Ok(_) => Status::Adverse,
+        Ok(Ended { missed, bank }) => {
+            *left = Left::Bank { bank };
+            if missed == 0 {
+                Status::Done
+            } else {
+                Status::Adverse
+            }
+        }
         Err(Failed) => Status::WriteFault,
     }
 }

@@ -1,8 +1,23 @@
-use Rattle.std.proofs.Common.{◌∙◌, ap, arith}
+use Rattle.std.proofs.Common.{◌≡◌, ◌∙◌, [], length, refl, ap, sym, arith}
+use Rattle.std.proofs.lemmas.Bool.{eqb-true}
+use Rattle.std.proofs.lemmas.List.{nil_from_length}
 use Rattle.std.proofs.lemmas.Result.{on_ok_weaker}
 use Rattle.rx_tick.specs.Counts.{with_slot}
 use Rattle.rx_top.proofs.Counting.{counts_next}
+use Rattle.rx_top.proofs.Lines.{no_lines}
+use Rattle.rx_top.proofs.Writes.{puts_nothing}
 use Rattle.rx_top.proofs.runs.write_slot.Goals as goal
+
+pub returns-then-is_empty-clause-puts : goal.returns-then-is_empty-clause-puts
+returns-then-is_empty-clause-puts g c =
+    let none : c.tick.new.out.events.items ≡ [] = nil_from_length _ (eqb-true _ 0 (sym c.is_empty.ensures ∙ c.if-is_empty.true)) in
+    puts_nothing _ _ _ _ (no_lines c.args.set.now c.args.executive.now.time _ (rw c.requires.system at c.tick.ensures.events) none)
+
+pub returns-then-is_empty-clause-counts : goal.returns-then-is_empty-clause-counts
+returns-then-is_empty-clause-counts g c =
+    let none : c.tick.new.out.events.items ≡ [] = nil_from_length _ (eqb-true _ 0 (sym c.is_empty.ensures ∙ c.if-is_empty.true)) in
+    counts_next _ _ _ _ _ _ _ c.requires.counts (rw c.requires.system at c.tick.ensures.slot) (rw c.requires.system at c.tick.ensures.events)
+    (omega (arith, ap length none)) (c.slot.ensures ∙ ap (with_slot c.args.totals.now) c.is_some.ensures) (rw none refl)
 
 pub returns-clause-puts : goal.returns-clause-puts
 returns-clause-puts g c =
