@@ -1,0 +1,5 @@
+pub mod Rule
+pub mod Seats
+pub mod Boards
+pub mod Closings
+pub mod Rows
