@@ -1,0 +1,4 @@
+pub mod Entries
+pub mod Trying
+pub mod Waiting
+pub mod Seating

@@ -1,0 +1,5 @@
+use Rattle.rx_table.specs.Boards.{AreSeats}
+use Rattle.rx_object.proofs.tests.longest_list.Given as goal
+
+abbrev pub invariant-loop-k : goal.invariant-loop-k
+invariant-loop-k g l = AreSeats l.opened.shared l.opened.seats.items

@@ -1,0 +1,100 @@
+-- What a call on a shared table tells of its seat. Histories are newest first.
+use Rattle.std.specs.Prelude.{ℕ, ◌≡◌, ◌≢◌, ◌+◌, ◌<◌, ◌≤◌, ◌^◌, List, [], ◌∷◌, ◌++◌, Some, None}
+use Rattle.rx_seq.specs.declared.calls.Call.{Call}
+use Rattle.rx_seq.specs.declared.entries.Entry.{Entry}
+use Rattle.rx_seq.specs.declared.replies.Reply.{Reply}
+use Rattle.rx_seq.specs.History.{tag_of as count_loud}
+use Rattle.rx_seq.specs.Legal.{IsLegal, entries_of}
+use Rattle.rx_shape.specs.Layout.{Layout}
+use Rattle.rx_port.specs.declared.views.Exchange.{Exchange}
+use Rattle.rx_port.specs.declared.views.Known.{Known}
+use Rattle.rx_port.specs.declared.views.View.{View}
+use Rattle.rx_port.specs.Core.{tag_after, entry_for}
+use Rattle.rx_object.specs.declared.calls.Try.{Try}
+use Rattle.rx_object.specs.declared.calls.Try.TheVariants.{Done, Lost, Spent}
+use Rattle.rx_object.specs.declared.calls.Outcome.{Outcome}
+use Rattle.rx_object.specs.declared.calls.Outcome.TheVariants.{Done as AllDone, Spent as AllSpent}
+
+abbrev pub exchange : ℕ → ℕ → ℕ → Exchange
+exchange object expected found = record { object = object; expected = expected; found = found }
+
+module _ (layout : Layout) (before now : View) (object : ℕ) where
+  -- the call was made after so many lost attempts. What the seat has seen is legal: it begins with what it had seen, goes
+  -- on with entries of others, at least one on the object for each lost attempt, and ends with the entry of this call
+  pub record IsDone (call : Call) (reply : Reply) (tag lost : ℕ) : Type 0 where
+    pub known : Known
+    pub is : before.known ≡ Some known
+    pub after : Known
+    pub after_is : now.known ≡ Some after
+    pub between : List Entry
+    pub seen : after.seen ≡ entry_for layout (between ++ known.seen) before.number object call ∷ between ++ known.seen
+    pub reply_is : reply ≡ (entry_for layout (between ++ known.seen) before.number object call).reply
+    pub tag_is : tag ≡ (entry_for layout (between ++ known.seen) before.number object call).tag
+    pub legal : IsLegal layout.parts layout.first after.seen
+    pub others : entries_of before.number between ≡ []
+    pub many : lost ≤ count_loud object between
+    pub mine : after.mine ≡ entry_for layout (between ++ known.seen) before.number object call ∷ known.mine
+    pub all_mine : after.mine ≡ entries_of before.number after.seen
+    pub begins : after.begins ≡ known.begins + lost + 1
+    pub exchanges : after.exchanges ≡ known.exchanges + lost + 1
+    pub root : ℕ
+    pub latest : after.latest ≡ Some (exchange object root root)
+    pub closed : now.attempt ≡ None
+    pub number : now.number ≡ before.number
+
+  -- so many attempts were lost: the seat has seen at least one entry of others on the object for each, and made none
+  pub record HasWaited (lost : ℕ) : Type 0 where
+    pub known : Known
+    pub is : before.known ≡ Some known
+    pub after : Known
+    pub after_is : now.known ≡ Some after
+    pub between : List Entry
+    pub seen : after.seen ≡ between ++ known.seen
+    pub others : entries_of before.number between ≡ []
+    pub many : lost ≤ count_loud object between
+    pub few : lost < 2 ^ 40
+    pub mine : after.mine ≡ known.mine
+    pub begins : after.begins ≡ known.begins + lost
+    pub exchanges : after.exchanges ≡ known.exchanges + lost
+    pub own : now.own ≡ before.own
+    pub number : now.number ≡ before.number
+
+  -- the exchange found another root than the attempt expected, and the seat has its own places and entries as before
+  pub record IsLost (expected found : ℕ) : Type 0 where
+    pub waited : HasWaited 1
+    pub legal : IsLegal layout.parts layout.first waited.after.seen
+    pub below : tag_after layout waited.after.seen object < 2 ^ 40
+    pub latest : waited.after.latest ≡ Some (exchange object expected found)
+    pub apart : found ≢ expected
+    pub closed : now.attempt ≡ None
+
+  -- after so many lost attempts the root that was loaded has the last tag, and the seat has its own places and entries as
+  -- before
+  pub record IsSpent (tag lost : ℕ) : Type 0 where
+    pub known : Known
+    pub is : before.known ≡ Some known
+    pub after : Known
+    pub after_is : now.known ≡ Some after
+    pub between : List Entry
+    pub seen : after.seen ≡ between ++ known.seen
+    pub legal : IsLegal layout.parts layout.first after.seen
+    pub others : entries_of before.number between ≡ []
+    pub many : lost ≤ count_loud object between
+    pub mine : after.mine ≡ known.mine
+    pub begins : after.begins ≡ known.begins + lost + 1
+    pub exchanges : after.exchanges ≡ known.exchanges + lost
+    pub tag_is : tag ≡ tag_after layout after.seen object
+    pub last : tag + 1 ≡ 2 ^ 40
+    pub own : now.own ≡ before.own
+    pub number : now.number ≡ before.number
+
+  -- what an attempt tells
+  abbrev pub Tells : Call → Try → Type 0
+  Tells call (Done reply tag) = IsDone call reply tag 0
+  Tells call (Lost expected found) = IsLost expected found
+  Tells call (Spent tag) = IsSpent tag 0
+
+  -- what a whole call tells
+  abbrev pub TellsAll : Call → Outcome → Type 0
+  TellsAll call (AllDone reply tag retries) = IsDone call reply tag retries
+  TellsAll call (AllSpent tag) = (lost : ℕ) × IsSpent tag lost
