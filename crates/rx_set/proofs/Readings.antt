@@ -9,6 +9,7 @@ use Rattle.rx_seq.specs.Table.{IsCap, IsPart}
 use Rattle.rx_seq.specs.History.{no_part, part_at}
 use Rattle.std.specs.Prelude.{slice_get}
 use Rattle.rx_set.specs.declared.policies.Policy.{Policy}
+use Rattle.rx_set.specs.declared.demands.Demand.{Demand}
 use Rattle.rx_set.specs.declared.items.Item.{Item}
 use Rattle.rx_set.specs.declared.items.Item.TheVariants.{Work}
 use Rattle.rx_set.specs.declared.jobs.Job.{Job}
@@ -25,14 +26,14 @@ use Rattle.rx_set.proofs.Releases.{periods_bound}
 no_object : ObjectRow
 no_object = record { name = []; part = no_part }
 
-pub task_read : (policy : Policy) (objects : List Object) (tasks : List Task) (k : ℕ) (task : Task) → k < length tasks → task ≡ get_or tasks k task → task_at (system_of policy objects tasks) k ≡ row_of task
-task_read policy objects tasks k task known is = get_or-map row_of tasks k task no_task known ∙ ap row_of (sym is)
+pub task_read : (policy : Policy) (objects : List Object) (tasks : List Task) (demands : List Demand) (k : ℕ) (task : Task) → k < length tasks → task ≡ get_or tasks k task → task_at (system_of policy objects tasks demands) k ≡ row_of task
+task_read policy objects tasks demands k task known is = get_or-map row_of tasks k task no_task known ∙ ap row_of (sym is)
 
 -- the same of the set that is shown
-pub row_read : (policy : Policy) (objects : List Object) (tasks : List Task) (shown : System) (k : ℕ) (task : Task) → system_of policy objects tasks ≡ shown → k < length shown.tasks → task ≡ get_or tasks k task → task_at shown k ≡ row_of task
-row_read policy objects tasks shown k task is known same =
+pub row_read : (policy : Policy) (objects : List Object) (tasks : List Task) (demands : List Demand) (shown : System) (k : ℕ) (task : Task) → system_of policy objects tasks demands ≡ shown → k < length shown.tasks → task ≡ get_or tasks k task → task_at shown k ≡ row_of task
+row_read policy objects tasks demands shown k task is known same =
     let P : System → Type 0 = λ s. k < length s.tasks → task_at s k ≡ row_of task in
-    let here : P (system_of policy objects tasks) = λ inside. task_read policy objects tasks k task (omega (arith, length-map tasks row_of)) same in
+    let here : P (system_of policy objects tasks demands) = λ inside. task_read policy objects tasks demands k task (omega (arith, length-map tasks row_of)) same in
     subst P is here known
 
 pub shown_valid : (system shown : System) → system ≡ shown → IsValid system → IsValid shown
@@ -50,17 +51,17 @@ job_bound shown job task valid known is =
     )
 
 -- the part of an object
-part_here : (policy : Policy) (objects : List Object) (tasks : List Task) (k : ℕ) (object : Object) → k < length objects → object ≡ get_or objects k object
-    → part_at (parts_of (system_of policy objects tasks)) k ≡ object.part
-part_here policy objects tasks k object known is =
+part_here : (policy : Policy) (objects : List Object) (tasks : List Task) (demands : List Demand) (k : ℕ) (object : Object) → k < length objects → object ≡ get_or objects k object
+    → part_at (parts_of (system_of policy objects tasks demands)) k ≡ object.part
+part_here policy objects tasks demands k object known is =
     get_or-map part_of_row (map object_row objects) k no_object no_part (omega (arith, length-map objects object_row))
     ∙ ap part_of_row (get_or-map object_row objects k object no_object known ∙ ap object_row (sym is))
 
-pub part_read : (policy : Policy) (objects : List Object) (tasks : List Task) (shown : System) (k : ℕ) (object : Object) → system_of policy objects tasks ≡ shown → k < length shown.objects
+pub part_read : (policy : Policy) (objects : List Object) (tasks : List Task) (demands : List Demand) (shown : System) (k : ℕ) (object : Object) → system_of policy objects tasks demands ≡ shown → k < length shown.objects
     → object ≡ get_or objects k object → part_at (parts_of shown) k ≡ object.part
-part_read policy objects tasks shown k object is known same =
+part_read policy objects tasks demands shown k object is known same =
     let P : System → Type 0 = λ s. k < length s.objects → part_at (parts_of s) k ≡ object.part in
-    let here : P (system_of policy objects tasks) = λ inside. part_here policy objects tasks k object (omega (arith, length-map objects object_row)) same in
+    let here : P (system_of policy objects tasks demands) = λ inside. part_here policy objects tasks demands k object (omega (arith, length-map objects object_row)) same in
     subst P is here known
 
 -- an attempt takes few ticks
@@ -77,9 +78,9 @@ attempt_bound system object valid known =
     attempt_by_bound (part_at (parts_of system) object).kind (part_at (parts_of system) object).cap (subst IsPart (sym part) row.part)
 
 -- the items of a task
-pub items_read : (policy : Policy) (objects : List Object) (tasks : List Task) (shown : System) (k : ℕ) (task : Task) (items : List Item) → system_of policy objects tasks ≡ shown → k < length shown.tasks
+pub items_read : (policy : Policy) (objects : List Object) (tasks : List Task) (demands : List Demand) (shown : System) (k : ℕ) (task : Task) (items : List Item) → system_of policy objects tasks demands ≡ shown → k < length shown.tasks
     → task ≡ get_or tasks k task → items ≡ task.body → items ≡ (task_at shown k).items
-items_read policy objects tasks shown k task items is known same read = read ∙ sym (ap (λ (row : TaskRow). row.items) (row_read policy objects tasks shown k task is known same))
+items_read policy objects tasks demands shown k task items is known same read = read ∙ sym (ap (λ (row : TaskRow). row.items) (row_read policy objects tasks demands shown k task is known same))
 
 pub item_here : (shown : System) (k place : ℕ) (items : List Item) → IsValid shown → k < length shown.tasks → items ≡ (task_at shown k).items → place < length items → IsItem shown (get_or items place (Work 0))
 item_here shown k place items valid known is inside =
@@ -89,46 +90,46 @@ pub items_few : (shown : System) (k : ℕ) (items : List Item) → IsValid shown
 items_few shown k items valid known is = omega (arith, ap length is, (valid.tasks k known).some_items.1)
 
 -- the parts so far and one more
-pub parts_more : (policy : Policy) (objects : List Object) (tasks : List Task) (shown : System) (k : ℕ) (object : Object) → system_of policy objects tasks ≡ shown → k < length objects
+pub parts_more : (policy : Policy) (objects : List Object) (tasks : List Task) (demands : List Demand) (shown : System) (k : ℕ) (object : Object) → system_of policy objects tasks demands ≡ shown → k < length objects
     → object ≡ get_or objects k object → take k (parts_of shown) ++ object.part ∷ [] ≡ take (k + 1) (parts_of shown)
-parts_more policy objects tasks shown k object is known same =
+parts_more policy objects tasks demands shown k object is known same =
     let P : System → Type 0 = λ s. take k (parts_of s) ++ object.part ∷ [] ≡ take (k + 1) (parts_of s) in
-    let here : P (system_of policy objects tasks) =
-    let parts = parts_of (system_of policy objects tasks) in
+    let here : P (system_of policy objects tasks demands) =
+    let parts = parts_of (system_of policy objects tasks demands) in
     let long : k < length parts = omega (arith, length-map objects object_row, length-map (map object_row objects) part_of_row) in
-    let last : get_or parts k no_part ≡ object.part = part_here policy objects tasks k object known same in
+    let last : get_or parts k no_part ≡ object.part = part_here policy objects tasks demands k object known same in
     sym (ap (λ n. take n parts) (add-one k) ∙ take-suc parts k no_part long ∙ ap (λ x. take k parts ++ x ∷ []) last) in
     subst P is here
 
 -- ranks as they are counted
-pub rank_counted : (policy : Policy) (tasks : List Task) (k count : ℕ) → count ≡ count_by (is_ahead (system_of policy [] tasks) k) (numbers (length tasks)) → count + 1 ≡ rank (system_of policy [] tasks) k
+pub rank_counted : (policy : Policy) (tasks : List Task) (k count : ℕ) → count ≡ count_by (is_ahead (system_of policy [] tasks []) k) (numbers (length tasks)) → count + 1 ≡ rank (system_of policy [] tasks []) k
 rank_counted policy tasks k count is =
-    ap (λ n. n + 1) is ∙ ap (λ n. count_by (is_ahead (system_of policy [] tasks) k) (numbers n) + 1) (sym (length-map tasks row_of))
+    ap (λ n. n + 1) is ∙ ap (λ n. count_by (is_ahead (system_of policy [] tasks []) k) (numbers n) + 1) (sym (length-map tasks row_of))
 
 pub map_numbers_more : (f : ℕ → ℕ) (n : ℕ) → map f (numbers (n + 1)) ≡ map f (numbers n) ++ f n ∷ []
 map_numbers_more f n = rw add-one (map-append f (numbers n) (n ∷ []))
 
-length-ranks : (system : System) (ranks : List ℕ) → IsTaskSet system ranks → length ranks ≡ length system.tasks
-length-ranks system ranks set =
+length-ranks : (system : System) (ranks order : List ℕ) → IsTaskSet system ranks order → length ranks ≡ length system.tasks
+length-ranks system ranks order set =
     ap length set.all_ranks ∙ length-map (numbers (length system.tasks)) (rank system) ∙ length-numbers (length system.tasks)
 
-pub rank_in_range : (system shown : System) (ranks read : List ℕ) (k : ℕ) → system ≡ shown → IsTaskSet system ranks → read ≡ ranks → k < length shown.tasks → k < length read
-rank_in_range system shown ranks read k is set same known = let known_here : k < length system.tasks = rw is known in omega (arith, ap length same, length-ranks system ranks set)
+pub rank_in_range : (system shown : System) (ranks order read : List ℕ) (k : ℕ) → system ≡ shown → IsTaskSet system ranks order → read ≡ ranks → k < length shown.tasks → k < length read
+rank_in_range system shown ranks order read k is set same known = let known_here : k < length system.tasks = rw is known in omega (arith, ap length same, length-ranks system ranks order set)
 
-pub rank_read : (system shown : System) (ranks read : List ℕ) (k : ℕ) → system ≡ shown → IsTaskSet system ranks → read ≡ ranks → k < length shown.tasks → get_or read k 0 ≡ rank shown k
-rank_read system shown ranks read k is set same known =
+pub rank_read : (system shown : System) (ranks order read : List ℕ) (k : ℕ) → system ≡ shown → IsTaskSet system ranks order → read ≡ ranks → k < length shown.tasks → get_or read k 0 ≡ rank shown k
+rank_read system shown ranks order read k is set same known =
     let P : System → Type 0 = λ s. k < length s.tasks → get_or read k 0 ≡ rank s k in
     let here : P system = λ inside. ap (λ xs. get_or xs k 0) (same ∙ set.all_ranks) ∙ get_or-map_numbers (rank system) (length system.tasks) k inside in
     subst P is here known
 
-pub rank_read_back : (system shown : System) (ranks read : List ℕ) (k : ℕ) → system ≡ shown → IsTaskSet system ranks → read ≡ ranks → k < length read → k < length shown.tasks
-rank_read_back system shown ranks read k is set same known = let equal : length system.tasks ≡ length shown.tasks = ap (λ (s : System). length s.tasks) is in omega (arith, ap length same, length-ranks system ranks set)
+pub rank_read_back : (system shown : System) (ranks order read : List ℕ) (k : ℕ) → system ≡ shown → IsTaskSet system ranks order → read ≡ ranks → k < length read → k < length shown.tasks
+rank_read_back system shown ranks order read k is set same known = let equal : length system.tasks ≡ length shown.tasks = ap (λ (s : System). length s.tasks) is in omega (arith, ap length same, length-ranks system ranks order set)
 
 -- some place of the table has each rank
-pub rank_somewhere : (system shown : System) (ranks : List ℕ) (r end : ℕ) → system ≡ shown → IsTaskSet system ranks → 1 ≤ r → r ≤ length shown.tasks → length ranks ≤ end
+pub rank_somewhere : (system shown : System) (ranks order : List ℕ) (r end : ℕ) → system ≡ shown → IsTaskSet system ranks order → 1 ≤ r → r ≤ length shown.tasks → length ranks ≤ end
     → ((k : ℕ) → k < end → get_or ranks k 0 ≡ r → ⊥) → ⊥
-rank_somewhere system shown ranks r end is set first last all nowhere =
+rank_somewhere system shown ranks order r end is set first last all nowhere =
     let equal : length system.tasks ≡ length shown.tasks = ap (λ (s : System). length s.tasks) is in
     let found = rank_found system r first (omega arith) in
-    nowhere found.0 (omega (arith, found.1, length-ranks system ranks set))
+    nowhere found.0 (omega (arith, found.1, length-ranks system ranks order set))
     (ap (λ xs. get_or xs found.0 0) set.all_ranks ∙ get_or-map_numbers (rank system) (length system.tasks) found.0 found.1 ∙ found.2)

@@ -159,7 +159,7 @@ longest_attempt = refl
 pub no_attempt : retry_cost (system Rm (x ∷ [])) ≡ 0
 no_attempt = refl
 
--- two tasks that share a cell and a queue, as the test builds them
+-- two tasks that share a cell and a queue, with a demand row, as the test builds them
 abbrev pub pair : Policy → System
 pair policy = record {
   policy = policy;
@@ -167,5 +167,5 @@ pair policy = record {
   tasks =
       record { name = codes "fast"; period = 10; deadline = 9; offset = 3; items = Work 2 ∷ [] }
       ∷ record { name = codes "urgent"; period = 20; deadline = 4; offset = 0; items = Op 0 (Add 1) ∷ Work 1 ∷ Op 1 Take ∷ [] } ∷ [];
-  demands = [];
+  demands = record { task = 1; job = 2; item = 2; ticks = 4 } ∷ [];
 }

@@ -6,12 +6,13 @@ use Rattle.rx_seq.specs.declared.kinds.Part.{Part}
 use Rattle.rx_seq.specs.History.{part_at}
 use Rattle.rx_set.specs.declared.policies.Policy.{Policy}
 use Rattle.rx_set.specs.declared.policies.Policy.TheVariants.{Rm, Dm, Edf}
+use Rattle.rx_set.specs.declared.demands.Demand.{Demand}
 use Rattle.rx_set.specs.declared.items.Item.{Item}
 use Rattle.rx_set.specs.declared.items.Item.TheVariants.{Work, Op}
 use Rattle.rx_set.specs.declared.jobs.Job.{Job}
 use Rattle.rx_set.specs.declared.jobs.Key.{Key}
 
--- an object, a task and a demand row, without where they lie in memory
+-- an object and a task, without where they lie in memory
 pub record ObjectRow : Type 0 where
   pub name : List ℕ
   pub part : Part
@@ -23,19 +24,12 @@ pub record TaskRow : Type 0 where
   pub offset : ℕ
   pub items : List Item
 
--- the job of this number of this task needs so many ticks for this work item, which is named by its number from 1
-pub record DemandRow : Type 0 where
-  pub task : ℕ
-  pub job : ℕ
-  pub item : ℕ
-  pub ticks : ℕ
-
 -- the policy, and the objects, the tasks and the demand rows in file order
 pub record System : Type 0 where
   pub policy : Policy
   pub objects : List ObjectRow
   pub tasks : List TaskRow
-  pub demands : List DemandRow
+  pub demands : List Demand
 
 abbrev pub no_task : TaskRow
 no_task = record { name = []; period = 0; deadline = 0; offset = 0; items = [] }
@@ -97,12 +91,12 @@ abbrev pub is_below : Key → Key → Bool
 is_below a b = nat_lt a.first b.first || ((a.first == b.first) && (nat_lt a.second b.second || ((a.second == b.second) && nat_lt a.third b.third)))
 
 -- the stated ticks, or those of the row that names this item of this job
-abbrev pub ticks_of : List DemandRow → Job → ℕ → ℕ → ℕ
+abbrev pub ticks_of : List Demand → Job → ℕ → ℕ → ℕ
 ticks_of [] job item stated = stated
 ticks_of (row ∷ rows) job item stated =
     if (row.task == job.task) && (row.job == job.number) && (row.item == item) then row.ticks else ticks_of rows job item stated
 
-abbrev pub demanded : List DemandRow → Job → ℕ → Option Item → Option Item
+abbrev pub demanded : List Demand → Job → ℕ → Option Item → Option Item
 demanded rows job number (Some (Work ticks)) = Some (Work (ticks_of rows job number ticks))
 demanded rows job number (Some (Op object call)) = Some (Op object call)
 demanded rows job number None = None

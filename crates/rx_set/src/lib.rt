@@ -1,6 +1,8 @@
-//! Sets of periodic tasks and the objects that they share: policies, items, releases, deadlines, ranks, keys and costs.
+//! Sets of periodic tasks, the objects that they share and the demands of their jobs: policies, items, releases, deadlines,
+//! ranks, keys, costs and ticks.
 #![tactic(auto)]
 
+mod demands;
 mod items;
 mod jobs;
 pub mod laws;
@@ -11,6 +13,7 @@ mod tasks;
 #[cfg(test)]
 mod tests;
 
+pub use demands::Demand;
 pub use items::{Body, Item};
 pub use jobs::{Job, Key};
 pub use objects::Object;

@@ -7,7 +7,8 @@ use rx_seq::{Call, Kind, Part};
 use std::alloc::Global;
 use std::test::Fail;
 
-/// A task of period 10, deadline 9 and offset 3, and one of period 20 and deadline 4.
+/// A task of period 10, deadline 9 and offset 3, and one of period 20 and deadline 4. The second
+/// job of this one needs more ticks for its work than stated.
 fn two_tasks(alloc: Global, policy: Policy) -> Result<TaskSet, Fail>
     ensures { IfOk result (λ set. set ≡ pair policy) }
 {
@@ -48,7 +49,15 @@ fn two_tasks(alloc: Global, policy: Policy) -> Result<TaskSet, Fail>
         },
     };
     let objects = vec![in alloc; cell, queue]?;
-    Ok(TaskSet::build(policy, objects, vec![in alloc; fast, urgent]?))
+    let tasks = vec![in alloc; fast, urgent]?;
+    let demand = Demand {
+        task: 1,
+        job: 2,
+        item: 2,
+        ticks: 4,
+    };
+    let demands = vec![in alloc; demand]?;
+    Ok(TaskSet::build(policy, objects, tasks, demands))
 }
 
 #[test]
@@ -79,7 +88,10 @@ fn each_policy(rt: HostRuntime) -> Result<(), Fail> {
         assert_eq!(rt; set.attempt_cost(1), 8);
         assert_eq!(rt; set.retry_cost(), 8);
         assert_eq!(rt; set.cost(1), 11);
-        assert_eq!(rt; set.ticks(Job { task: 1, number: 1 }, 2), 1);
+        assert_eq!(rt; set.demands().len(), 1);
+        assert_eq!(rt; set.ticks(Job { task: 1, number: 2 }, 2), 4);
+        assert_eq!(rt; set.ticks(Job { task: 1, number: 3 }, 2), 1);
+        assert_eq!(rt; set.kept(), false);
     }
     Ok(())
 }
