@@ -6,9 +6,10 @@ use Rattle.std.proofs.lemmas.List.{length-map, map-append}
 use Rattle.std.proofs.lemmas.List.Elements.{All-push}
 use Rattle.std.proofs.lemmas.Option.{slice_get_within, get_or_from_slice_get}
 use Rattle.rx_set.specs.declared.policies.Policy.{Policy}
+use Rattle.rx_set.specs.declared.demands.Demand.{Demand}
 use Rattle.rx_set.specs.declared.objects.Object.{Object}
 use Rattle.rx_set.specs.declared.tasks.Task.{Task}
-use Rattle.rx_set.specs.System.{ObjectRow, TaskRow, DemandRow, no_task}
+use Rattle.rx_set.specs.System.{ObjectRow, TaskRow, no_task}
 use Rattle.rx_set.specs.Valid.{IsValid, IsObjectRow, IsTaskRow}
 use Rattle.rx_set.specs.View.{object_row, row_of, system_of}
 use Rattle.rx_file.specs.Fields.{is_taken}
@@ -38,7 +39,7 @@ at_place : {X : Type 0} (P : X → Type 0) (xs : List X) (place : ℕ) (x : X) �
 at_place P xs place x all e = rw (get_or_from_slice_get xs place x x e) at (all place x (slice_get_within xs place x e))
 
 -- a task that is valid among some objects is so in each system of these objects
-task_among : (policy : Policy) (objects : List ObjectRow) (tasks : List TaskRow) (demands : List DemandRow) (row : TaskRow)
+task_among : (policy : Policy) (objects : List ObjectRow) (tasks : List TaskRow) (demands : List Demand) (row : TaskRow)
     → IsTaskRow (alone objects) row → IsTaskRow (record { policy = policy; objects = objects; tasks = tasks; demands = demands }) row
 task_among policy objects tasks demands row good = record {
   name = good.name;
@@ -51,7 +52,7 @@ task_among policy objects tasks demands row good = record {
 
 pub valid : (policy : Policy) (objects : List Object) (tasks : List Task) → AreObjects (map object_row objects)
     → AreTasks (map object_row objects) (map row_of tasks) → length objects ≤ 16 → 1 ≤ length tasks → length tasks ≤ 32
-    → IsValid (system_of policy objects tasks)
+    → IsValid (system_of policy objects tasks [])
 valid policy objects tasks are_objects are_tasks few_objects some few = record {
   some_tasks = simp length-map (some, few);
   few_objects = simp length-map few_objects;

@@ -63,7 +63,7 @@ fn read_file(alloc: Global, file: &Table) -> Result<TaskSet, FileFault>
     only_keys(TOP, &[Label::Object, Label::Task], file)?;
     let objects = read_objects(alloc, of_objects)?;
     let tasks = read_tasks(alloc, objects.as_slice(), of_tasks)?;
-    Ok(TaskSet::build(Policy::Rm, objects, tasks))
+    Ok(TaskSet::build(Policy::Rm, objects, tasks, Vec::new(alloc)))
 }
 
 /// The document that bytes write.

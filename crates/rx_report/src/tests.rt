@@ -55,6 +55,7 @@ fn shared(alloc: Global) -> Result<TaskSet, Fail>
         Policy::Rm,
         vec![in alloc; cell, registers]?,
         vec![in alloc; task]?,
+        Vec::new(alloc),
     ))
 }
 
