@@ -14,11 +14,12 @@ use Rattle.rx_seq.specs.declared.entries.Entry.{Entry}
 use Rattle.rx_seq.specs.declared.replies.Reply.{Reply}
 use Rattle.rx_seq.specs.Table.{effect, fits_part}
 use Rattle.rx_seq.specs.History.{part_at, replay, tag_of as count_loud, entry_after}
+use Rattle.rx_set.specs.declared.demands.Demand.{Demand}
 use Rattle.rx_set.specs.declared.items.Item.{Item}
 use Rattle.rx_set.specs.declared.items.Item.TheVariants.{Work, Op}
 use Rattle.rx_set.specs.declared.jobs.Job.{Job}
-use Rattle.rx_set.specs.System.{System, DemandRow, task_of, parts_of, part_of_row, item_at, demanded, attempt_cost, attempt_by}
-use Rattle.rx_set.specs.Valid.{IsItem}
+use Rattle.rx_set.specs.System.{System, task_of, parts_of, part_of_row, item_at, demanded, attempt_cost, attempt_by}
+use Rattle.rx_set.specs.Valid.{IsItem, IsValid}
 use Rattle.rx_shape.specs.Words.{tag_of as tag_in}
 use Rattle.rx_shape.specs.declared.homes.Home.{Home}
 use Rattle.rx_shape.specs.Forms.{form_of}
@@ -43,7 +44,7 @@ use Rattle.rx_tick.specs.Schedule.{Slot, Busy, Decide, Progress, completed, lost
 use Rattle.rx_tick.specs.declared.events.Event.TheVariants as Event
 use Rattle.rx_tick.specs.Events.{wins, wins_below, decision}
 use Rattle.rx_tick.specs.Laws.{who, finished_before, asked_by}
-use Rattle.rx_tick.specs.States.{job, progress_of, with_progress, after_slot, progress_made, IsServed}
+use Rattle.rx_tick.specs.States.{job, progress_of, with_progress, after_slot, progress_made}
 use Rattle.rx_tick.specs.Banks.{IsBankOf, Touch, Nothing, Load, Store, Exchange, MayTouch, TouchesIn, TouchesAfter, KeepsMachines, machine_at, IsAtWork, IsInHand, IsTicking, HasTicked, CanStep, HasStepped}
 use Rattle.rx_tick.specs.Sums.{AreSums}
 use Rattle.rx_tick.proofs.Sums.{tried_few}
@@ -58,7 +59,7 @@ use Rattle.rx_tick.proofs.Effects.{Does, begin_does, read_does, write_does, deci
 use Rattle.rx_tick.proofs.Shares.{in_hand_share, cost_some}
 
 -- an operation of a job fits an object that is there
-op_item : (rows : List DemandRow) (mine : Job) (number : ℕ) (item : Option Item) (object : ℕ) (call : Call) → demanded rows mine number item ≡ Some (Op object call) → item ≡ Some (Op object call)
+op_item : (rows : List Demand) (mine : Job) (number : ℕ) (item : Option Item) (object : ℕ) (call : Call) → demanded rows mine number item ≡ Some (Op object call) → item ≡ Some (Op object call)
 op_item rows mine number None object call e = cc
 op_item rows mine number (Some (Work ticks)) object call e = cc
 op_item rows mine number (Some (Op other its)) object call e = e
@@ -67,11 +68,11 @@ pub record IsCall (system : System) (object : ℕ) (call : Call) : Type 0 where
   pub exists : object < length system.objects
   pub fits : fits_part (part_at (parts_of system) object) call ≡ true
 
-pub call_is : (system : System) (mine : Job) (place object : ℕ) (call : Call) → IsServed system → mine.task < length system.tasks → item_at system mine place ≡ Some (Op object call) → IsCall system object call
-call_is system mine place object call of known e =
+pub call_is : (system : System) (mine : Job) (place object : ℕ) (call : Call) → IsValid system → mine.task < length system.tasks → item_at system mine place ≡ Some (Op object call) → IsCall system object call
+call_is system mine place object call valid known e =
     let stated = op_item system.demands mine (place + 1) (slice_get (task_of system mine).items place) object call e in
-    let valid : IsItem system (Op object call) = (of.valid.tasks mine.task known).items place (Op object call) stated in
-    record { exists = valid.0; fits = valid.1 }
+    let item : IsItem system (Op object call) = (valid.tasks mine.task known).items place (Op object call) stated in
+    record { exists = item.0; fits = item.1 }
 
 -- an attempt of a machine has as many steps as one of the schedule has slots
 steps_by : (kind : Kind) (cap : ℕ) → steps_as (form_of kind) cap ≡ attempt_by kind cap
@@ -91,7 +92,7 @@ module _ (system : System) (now : ℕ) (mine : Job) (s : State) (objects : Objec
 
   in_hand_is : s.made < asked_by system (item_at system mine s.complete)
   in_hand_is = subst (λ (p : Progress). p.made < asked_by system (item_at system mine p.complete)) is.started
-      (in_hand_share system now mine is.of.valid (record { task = is.known.task; number = is.known.number.0 }) unfinished_is)
+      (in_hand_share system now mine is.valid (record { task = is.known.task; number = is.known.number.0 }) unfinished_is)
 
   begun_is : 1 ≤ s.made → IsBegun system mine now (progress_of s)
   begun_is = subst (λ (p : Progress). 1 ≤ p.made → IsBegun system mine now p) is.started (held system mine now)
@@ -207,7 +208,7 @@ module _ (system : System) (now : ℕ) (mine : Job) (s : State) (objects : Objec
 
   module _ (object : ℕ) (call : Call) (item : item_at system mine s.complete ≡ Some (Op object call)) where
     op_call : IsCall system object call
-    op_call = call_is system mine s.complete object call is.of is.known.task item
+    op_call = call_is system mine s.complete object call is.valid is.known.task item
 
     pub exists_here : object < length objects.bank.layout.parts
     exists_here = omega (arith, ap (λ (ps : List Part). length ps) is.stands.parts, length-map system.objects part_of_row, op_call.exists)

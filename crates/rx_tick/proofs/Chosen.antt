@@ -136,7 +136,7 @@ chosen_of system past now states kept length_is (suc tasks) h =
     ∙ ap (fold (sooner system) None) (filter-append (is_pending system past) before (jobs_of tasks (now + 1)))
     ∙ fold-append (sooner system) None (filter (is_pending system past) before) (filter (is_pending system past) (jobs_of tasks (now + 1)))
     ∙ ap (λ (b : Option Job). fold (sooner system) b (filter (is_pending system past) (jobs_of tasks (now + 1)))) (chosen_of system past now states kept length_is tasks (omega arith))
-    ∙ offer_is system past now tasks (state_at states tasks) (kept.each tasks (omega arith)) length_is kept.of.valid (omega arith) (best_of system tasks states)
+    ∙ offer_is system past now tasks (state_at states tasks) (kept.each tasks (omega arith)) length_is kept.valid (omega arith) (best_of system tasks states)
 
 -- the next slot goes to the soonest of the jobs that the tasks offer
 pub chosen_is : (system : System) (now : ℕ) (states : List State) → AreStates system (slots system now) (now + 1) states → chosen system (slots system now) ≡ best_of system (length system.tasks) states
@@ -174,7 +174,7 @@ best_known system states tasks kept h = λ x e.
 
 pub offers_from : (system : System) (past : List Slot) (now : ℕ) (states : List State) → AreStates system past (now + 1) states → now < 2 ^ 40 → AreOffers system states
 offers_from system past now states kept early = record {
-  of = kept.of;
+  valid = kept.valid;
   count = kept.count;
-  few = λ task known. omega (arith, released_bound system past (now + 1) task (state_at states task) (kept.each task known) kept.of.valid known);
+  few = λ task known. omega (arith, released_bound system past (now + 1) task (state_at states task) (kept.each task known) kept.valid known);
 }

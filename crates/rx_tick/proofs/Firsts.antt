@@ -7,7 +7,7 @@ use Rattle.rx_set.specs.System.{System, no_task, task_at}
 use Rattle.rx_set.specs.Valid.{IsValid}
 use Rattle.rx_set.specs.View.{row_of}
 use Rattle.rx_tick.specs.declared.states.State.{State}
-use Rattle.rx_tick.specs.States.{no_state, state_at, first_state_of, IsState, AreStates, IsTurn, IsServed, best_of, offer}
+use Rattle.rx_tick.specs.States.{no_state, state_at, first_state_of, IsState, AreStates, IsTurn, best_of, offer}
 use Rattle.rx_tick.proofs.Moves.{known_none}
 
 abbrev pub firsts : List Task → List State
@@ -34,11 +34,11 @@ first_is system task valid known = record {
   order = omega arith;
 }
 
-pub first_states_are : (system : System) (states : List State) → IsServed system → states ≡ map first_state_of system.tasks → AreStates system [] 0 states
-first_states_are system states of e = record {
-  of = of;
+pub first_states_are : (system : System) (states : List State) → IsValid system → states ≡ map first_state_of system.tasks → AreStates system [] 0 states
+first_states_are system states valid e = record {
+  valid = valid;
   count = ap (λ (xs : List State). length xs) e ∙ length-map system.tasks first_state_of;
-  each = λ task known. subst (IsState system [] 0 task) (sym (first_at system states task e known)) (first_is system task of.valid known);
+  each = λ task known. subst (IsState system [] 0 task) (sym (first_at system states task e known)) (first_is system task valid known);
 }
 
 none_best : (system : System) (states : List State) → states ≡ map first_state_of system.tasks → (tasks : ℕ) → tasks ≤ length system.tasks → None ≡ best_of system tasks states

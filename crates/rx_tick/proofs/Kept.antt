@@ -54,7 +54,7 @@ module _ (system : System) (now : ℕ) (states : List State) (kept : AreStates s
     (objects : Objects) (words : IsKept system (slots system now) states objects) where
   pub ticking : now < 2 ^ 40 → IsTicking system now mine (state_at states mine.task) objects
   ticking early = record {
-    of = kept.of;
+    valid = kept.valid;
     early = early;
     known = job_here system now states kept mine best early;
     owner = owner_here system now states kept mine best;

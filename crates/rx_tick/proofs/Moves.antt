@@ -235,7 +235,7 @@ idle_slot system past h = ap (slot_of system past) h
 -- an idle slot leaves what is kept
 pub idle_states : (system : System) (past : List Slot) (time : ℕ) (states : List State) → AreStates system past time states → AreStates system (Idle ∷ past) time states
 idle_states system past time states kept = record {
-  of = kept.of;
+  valid = kept.valid;
   count = kept.count;
   each = λ task known. let s = kept.each task known in record {
     finished = s.finished;
@@ -328,7 +328,7 @@ module _ (system : System) (now : ℕ) (states : List State) (kept : AreStates s
 
   states_next : AreStates system (slot_at system now ∷ slots system now) (now + 1) (slice_set states mine.task after_here)
   states_next = record {
-    of = kept.of;
+    valid = kept.valid;
     count = length-set states mine.task after_here ∙ kept.count;
     each = λ task known. elim (dec_le task mine.task) [
       | yes below ↦ elim (dec_le mine.task task) [
@@ -382,7 +382,7 @@ module _ (system : System) (now : ℕ) (states : List State) (kept : AreStates s
   pub job_here : now < 2 ^ 40 → IsJob system mine
   job_here early = record {
     task = known_here;
-    number = (omega (arith, offered_here.number), omega (arith, offered_here.number, offered_here.released, released_bound system (slots system now) (now + 1) mine.task (state_at states mine.task) state_here kept.of.valid known_here));
+    number = (omega (arith, offered_here.number), omega (arith, offered_here.number, offered_here.released, released_bound system (slots system now) (now + 1) mine.task (state_at states mine.task) state_here kept.valid known_here));
   }
 
   -- what is told of the slot

@@ -7,10 +7,11 @@ use Rattle.rx_seq.specs.declared.calls.Call.{Call}
 use Rattle.rx_seq.specs.declared.kinds.Kind.{Kind}
 use Rattle.rx_seq.specs.declared.kinds.Kind.TheVariants.{Cell, Queue, Registers, List as Ordered}
 use Rattle.rx_seq.specs.History.{part_at}
+use Rattle.rx_set.specs.declared.demands.Demand.{Demand}
 use Rattle.rx_set.specs.declared.items.Item.{Item}
 use Rattle.rx_set.specs.declared.items.Item.TheVariants.{Work, Op}
 use Rattle.rx_set.specs.declared.jobs.Job.{Job}
-use Rattle.rx_set.specs.System.{System, DemandRow, task_of, parts_of, item_at, demanded, ticks_of, attempt_by, attempt_cost}
+use Rattle.rx_set.specs.System.{System, task_of, parts_of, item_at, demanded, ticks_of, attempt_by, attempt_cost}
 use Rattle.rx_set.specs.Valid.{IsValid, IsJobOf, IsItem, IsWork}
 use Rattle.rx_tick.specs.Schedule.{Slot, Progress, progress, slots, slot_at}
 use Rattle.rx_tick.specs.Laws.{who, so_far, finished_before, owned, slots_of, asked_by, asked_up_to, lost_in, lost_ticks}
@@ -61,7 +62,7 @@ cut system zero job = refl
 cut system (suc n) job = omega (arith, cut system n job, share system job n (either system n job))
 
 -- every item asks for a tick at least
-ticks_some : (rows : List DemandRow) (job : Job) (number stated : ℕ) → ((place : ℕ) (row : DemandRow) → slice_get rows place ≡ Some row → 1 ≤ row.ticks) → 1 ≤ stated → 1 ≤ ticks_of rows job number stated
+ticks_some : (rows : List Demand) (job : Job) (number stated : ℕ) → ((place : ℕ) (row : Demand) → slice_get rows place ≡ Some row → 1 ≤ row.ticks) → 1 ≤ stated → 1 ≤ ticks_of rows job number stated
 ticks_some [] job number stated each some = some
 ticks_some (row ∷ rows) job number stated each some = by_test ((row.task == job.task) && (row.job == job.number) && (row.item == number)) (ticks_some rows job number stated (λ place. each (suc place)) some)
   where
@@ -173,7 +174,7 @@ unfinished_share system n job valid known h =
     let inside : (so_far system job n).complete < length (task_of system job).items = not_done system job n h in
     omega (arith, cut system n job, small system job n valid known inside, up_from system job (so_far system job n).complete (length (task_of system job).items) inside)
 
-pub stated_op : (rows : List DemandRow) (job : Job) (number object : ℕ) (call : Call) (o : Option Item) → demanded rows job number o ≡ Some (Op object call) → o ≡ Some (Op object call)
+pub stated_op : (rows : List Demand) (job : Job) (number object : ℕ) (call : Call) (o : Option Item) → demanded rows job number o ≡ Some (Op object call) → o ≡ Some (Op object call)
 stated_op rows job number object call None e = e
 stated_op rows job number object call (Some (Work ticks)) e = cc
 stated_op rows job number object call (Some (Op other call')) e = e

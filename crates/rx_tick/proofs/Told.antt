@@ -232,18 +232,18 @@ module _ (system : System) (now watch : ℕ) (states : List State) (kept : AreSt
   quiet_misses watched =
       sym (misses_all system now (length system.tasks) refl)
       ∙ quiet (Miss now) (is_missed system (slots system now)) now (length system.tasks) (λ task known.
-      missed_none system (slots system now) now task (state_at states task) (kept.each task known) kept.of.valid known (slots_count system now)
+      missed_none system (slots system now) now task (state_at states task) (kept.each task known) kept.valid known (slots_count system now)
       (not_late system (slots system now) now task watch (state_at states task) (kept.each task known) (watched.each task known) early))
 
   pub quiet_releases : AreBeforeRelease system watch states → releases system now ≡ []
   quiet_releases watched =
       quiet (Release now) (is_released_at system now) now (length system.tasks) (λ task known.
-      released_none system (slots system now) now task (state_at states task) (kept.each task known) kept.of.valid known
+      released_none system (slots system now) now task (state_at states task) (kept.each task known) kept.valid known
       (λ e. absurd (omega (arith, watched.each task known))))
 
   pub quiet_states : AreBeforeRelease system watch states → AreStates system (slots system now) (now + 1) states
   quiet_states watched = record {
-    of = kept.of;
+    valid = kept.valid;
     count = kept.count;
     each = λ task known. state_waits system (slots system now) now task (state_at states task) (kept.each task known) (omega (arith, watched.each task known));
   }

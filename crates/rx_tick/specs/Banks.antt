@@ -6,7 +6,7 @@ use Rattle.rx_set.specs.declared.items.Item.{Item}
 use Rattle.rx_set.specs.declared.items.Item.TheVariants.{Work, Op}
 use Rattle.rx_set.specs.declared.jobs.Job.{Job}
 use Rattle.rx_set.specs.System.{System, parts_of, task_of, item_at}
-use Rattle.rx_set.specs.Valid.{IsJob}
+use Rattle.rx_set.specs.Valid.{IsJob, IsValid}
 use Rattle.rx_shape.specs.Words.{tag_of as tag_in}
 use Rattle.rx_port.specs.declared.views.Counts.{Counts}
 use Rattle.rx_port.specs.declared.views.Core.{Core}
@@ -23,7 +23,7 @@ use Rattle.rx_tick.specs.Schedule.{Slot, Idle, Busy, Decide, job_in, after, prog
 use Rattle.rx_tick.specs.Events.{wins_below}
 use Rattle.rx_tick.specs.Laws.{who}
 use Rattle.rx_tick.specs.Sums.{AreSums}
-use Rattle.rx_tick.specs.States.{job, state_at, IsServed, after_slot, progress_made, progress_of}
+use Rattle.rx_tick.specs.States.{job, state_at, after_slot, progress_made, progress_of}
 
 -- the bank has the system's objects, whose tags start at 0, and a seat for each task, and it stands for the history of the slots
 pub record IsBankOf (system : System) (past : List Slot) (bank : Whole) : Type 0 where
@@ -133,7 +133,7 @@ pub record IsKept (system : System) (past : List Slot) (states : List State) (ob
 
 -- the job that has the next slot, the state of its task, and the objects, before the slot
 pub record IsTicking (system : System) (now : ℕ) (mine : Job) (s : State) (objects : Objects) : Type 0 where
-  pub of : IsServed system
+  pub valid : IsValid system
   pub early : now < 2 ^ 40
   pub known : IsJob system mine
   pub owner : who system now ≡ Some mine

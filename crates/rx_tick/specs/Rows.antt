@@ -3,7 +3,7 @@ use Rattle.std.specs.Prelude.{ℕ, ◌≡◌, refl, List, [], ◌∷◌, codes}
 use Rattle.rx_seq.specs.declared.kinds.Kind.TheVariants.{Cell, Queue}
 use Rattle.rx_seq.specs.declared.calls.Call.TheVariants.{Add, Put, Take}
 use Rattle.rx_seq.specs.declared.replies.Reply.TheVariants.{Done, Empty}
-use Rattle.rx_set.specs.declared.policies.Policy.TheVariants.{Rm, Edf}
+use Rattle.rx_set.specs.declared.policies.Policy.TheVariants.{Rm, Dm, Edf}
 use Rattle.rx_set.specs.declared.items.Item.{Item}
 use Rattle.rx_set.specs.declared.items.Item.TheVariants.{Work, Op}
 use Rattle.rx_set.specs.declared.jobs.Job.{Job}
@@ -99,6 +99,21 @@ pub not_kept_events : events not_kept 10 ≡
     Release 0 (job 1 1) ∷ Release 2 (job 0 1) ∷ Preempt 2 (job 1 1) (job 0 1) ∷ Reply 3 2 (job 0 1) 1 (Done 1) 1 ∷ Finish 3 (job 0 1)
     ∷ Retry 4 1 (job 1 1) 2 0 1 ∷ Reply 6 5 (job 1 1) 2 (Done 6) 2 ∷ Miss 8 (job 1 1) ∷ Finish 8 (job 1 1) ∷ []
 not_kept_events = refl
+
+-- y has the shorter deadline, and its first job needs a tick more than stated
+abbrev by_deadline : System
+by_deadline = record {
+  policy = Dm;
+  objects = [];
+  tasks =
+      record { name = codes "x"; period = 10; deadline = 9; offset = 0; items = Work 2 ∷ [] }
+      ∷ record { name = codes "y"; period = 20; deadline = 4; offset = 1; items = Work 2 ∷ [] } ∷ [];
+  demands = record { task = 1; job = 1; item = 1; ticks = 3 } ∷ [];
+}
+
+pub by_deadline_events : events by_deadline 6 ≡
+    Release 0 (job 0 1) ∷ Release 1 (job 1 1) ∷ Preempt 1 (job 0 1) (job 1 1) ∷ Finish 3 (job 1 1) ∷ Finish 4 (job 0 1) ∷ []
+by_deadline_events = refl
 
 -- two releases at one tick, and two attempts that one retry of a third has to yield to
 abbrev two_releases : System

@@ -1,5 +1,5 @@
 -- What the executive keeps, against the schedule.
-use Rattle.std.specs.Prelude.{ℕ, zero, suc, ◌≡◌, ◌==◌, ◌&&◌, ◌+◌, ◌<◌, ◌≤◌, ◌^◌, Bool, true, if◌then◌else◌, nat_lt, Option, None, List, [], length, get_or, map, filter}
+use Rattle.std.specs.Prelude.{ℕ, zero, suc, ◌≡◌, ◌==◌, ◌&&◌, ◌+◌, ◌<◌, ◌≤◌, ◌^◌, Bool, true, if◌then◌else◌, nat_lt, Option, None, List, length, get_or, map, filter}
 use Rattle.std.specs.Option.{ForSome}
 use Rattle.rx_set.specs.declared.jobs.Job.{Job}
 use Rattle.rx_set.specs.System.{System, TaskRow, task_at, task_of, release, due}
@@ -34,13 +34,8 @@ pub record IsState (system : System) (past : List Slot) (time task : ℕ) (s : S
   pub last : 1 ≤ s.released → release system (job task s.released) < time
   pub order : s.finished ≤ s.released
 
--- the systems that the executive serves: valid ones with no demand rows
-pub record IsServed (system : System) : Type 0 where
-  pub valid : IsValid system
-  pub no_demands : system.demands ≡ []
-
 pub record AreStates (system : System) (past : List Slot) (time : ℕ) (states : List State) : Type 0 where
-  pub of : IsServed system
+  pub valid : IsValid system
   pub count : length states ≡ length system.tasks
   pub each : (task : ℕ) → task < length system.tasks → IsState system past time task (state_at states task)
 
@@ -118,7 +113,7 @@ releases_at system now task = map (Release now) (filter (is_released_at system n
 
 -- the first unfinished job of each task can be asked for its key
 pub record AreOffers (system : System) (states : List State) : Type 0 where
-  pub of : IsServed system
+  pub valid : IsValid system
   pub count : length states ≡ length system.tasks
   pub few : (task : ℕ) → task < length system.tasks → (state_at states task).released ≤ 2 ^ 40
 

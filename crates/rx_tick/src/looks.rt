@@ -2,10 +2,10 @@
 ghost use Rattle.std.specs.Prelude.{ℕ, ◌≡◌, ◌≤◌, ◌<◌, ◌+◌, ◌-◌, ◌^◌, ◌++◌, slice_set, ◌∷◌, [], List, length};
 ghost use Rattle.std.specs.Option.{ForSome};
 ghost use Rattle.arrayvec.specs.ArrayVec.{array_vec_len};
-ghost use Rattle.rx_set.specs.Valid.{IsJob};
+ghost use Rattle.rx_set.specs.Valid.{IsJob, IsValid};
 ghost use Rattle.rx_tick.specs.Schedule.{slots, sooner};
 ghost use Rattle.rx_tick.specs.Events.{misses, releases};
-ghost use Rattle.rx_tick.specs.States.{AreStates, IsState, IsBeforeDue, AreBeforeDue, AreBeforeRelease, AreOffers, IsServed, offer, with_offer, best_of, in_hand, state_at, misses_at, releases_at, is_late_at};
+ghost use Rattle.rx_tick.specs.States.{AreStates, IsState, IsBeforeDue, AreBeforeDue, AreBeforeRelease, AreOffers, offer, with_offer, best_of, in_hand, state_at, misses_at, releases_at, is_late_at};
 ghost use Rattle.rx_set.specs.System.{task_at, is_below as key_below};
 
 use crate::events::Event;
@@ -16,7 +16,7 @@ use rx_set::{Job, Key, TaskSet};
 
 /// Whether the latest job that a task released is unfinished, and due now.
 fn is_late(set: &TaskSet, state: State, task: usize, now: u64) -> bool
-    requires of { IsServed set.now }
+    requires valid { IsValid set.now }
     requires known { task < length set.now.tasks }
     requires now { now ≤ 2 ^ 40 }
     requires state { IsState set.now (slots set.now now) now task state }
@@ -28,7 +28,7 @@ fn is_late(set: &TaskSet, state: State, task: usize, now: u64) -> bool
 
 /// Tells the miss of a task, if it has one at this time: only the latest job that it released can be due.
 fn tell_miss(set: &TaskSet, state: State, task: usize, now: u64, events: &mut ArrayVec<Event, 131>)
-    requires of { IsServed set.now }
+    requires valid { IsValid set.now }
     requires known { task < length set.now.tasks }
     requires now { now ≤ 2 ^ 40 }
     requires state { IsState set.now (slots set.now now) now task state }
@@ -61,7 +61,7 @@ pub fn tell_misses(set: &TaskSet, states: &[State], now: u64, events: &mut Array
 
 /// When the unfinished job that a task released latest is due, if that is after this time.
 fn due_after(set: &TaskSet, state: State, task: usize, now: u64) -> u64
-    requires of { IsServed set.now }
+    requires valid { IsValid set.now }
     requires known { task < length set.now.tasks }
     requires now { now ≤ 2 ^ 40 }
     requires state { IsState set.now (slots set.now now) now task state }
@@ -146,7 +146,7 @@ fn count_release(
     now: u64,
     events: &mut ArrayVec<Event, 131>,
 ) -> State
-    requires of { IsServed set.now }
+    requires valid { IsValid set.now }
     requires known { task < length set.now.tasks }
     requires now { now < 2 ^ 40 }
     requires state { IsState set.now (slots set.now now) now task state }
@@ -190,7 +190,7 @@ fn look_at_release(
     now: u64,
     events: &mut ArrayVec<Event, 131>,
 )
-    requires of { IsServed set.now }
+    requires valid { IsValid set.now }
     requires known { task < length set.now.tasks }
     requires inside { task < length states.old }
     requires now { now < 2 ^ 40 }
@@ -277,7 +277,7 @@ pub fn look_at_releases(
 
 /// The sooner of a job and the one that a task offers, which is its first unfinished job if that is released.
 fn offer_of(set: &TaskSet, best: Option<Job>, state: State, task: usize) -> Option<Job>
-    requires of { IsServed set.now }
+    requires valid { IsValid set.now }
     requires known { task < length set.now.tasks }
     requires best { ForSome best (IsJob set.now) }
     requires few { state.released ≤ 2 ^ 40 }

@@ -6,7 +6,7 @@ use Rattle.rx_tick.proofs.executive.first_states.Goals as goal
 pub returns-clause-states : goal.returns-clause-states
 returns-clause-states c =
     first_states_are c.args.set.now c.loop-task.states.items
-    (record { valid = c.tasks-tasks.ensures.valid; no_demands = c.tasks-tasks.ensures.no_demands })
+    c.tasks-tasks.ensures.valid
     (c.loop-task.invariant ∙ firsts_all c.tasks-tasks.result.now c.loop-task.task-index (omega arith) ∙ ap (map first_state_of) c.tasks-tasks.ensures.rows)
 
 pub returns-clause-turn : goal.returns-clause-turn

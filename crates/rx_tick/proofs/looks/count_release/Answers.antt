@@ -14,10 +14,10 @@ returns-clause-state c =
     let P : ℕ → Type 0 = λ period. IsState c.args.set.now past (c.args.now + 1) c.args.task
     (record c.args.state { released = c.args.state.released + 1; next = c.args.state.next + period }) in
     subst P (ap (λ (r : TaskRow). r.period) is)
-    (state_released c.args.set.now past c.args.now c.args.task c.args.state c.requires.state c.requires.of.valid c.requires.known c.requires.comes)
+    (state_released c.args.set.now past c.args.now c.args.task c.args.state c.requires.state c.requires.valid c.requires.known c.requires.comes)
 
 pub returns-clause-told : goal.returns-clause-told
 returns-clause-told c =
     let past = slots c.args.set.now c.args.now in
     c.push.ensures.items ∙ ap (λ (js : List Job). c.args.events.now.items ++ map (Release c.args.now) js)
-    (sym (released_some c.args.set.now past c.args.now c.args.task c.args.state c.requires.state c.requires.of.valid c.requires.known c.requires.comes))
+    (sym (released_some c.args.set.now past c.args.now c.args.task c.args.state c.requires.state c.requires.valid c.requires.known c.requires.comes))

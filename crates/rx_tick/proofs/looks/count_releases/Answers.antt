@@ -27,8 +27,8 @@ loop-task-init c = record {
   few = omega arith;
 }
 
-pub look_at_release-requires-clause-of : goal.look_at_release-requires-clause-of
-look_at_release-requires-clause-of c = c.requires.states.of
+pub look_at_release-requires-clause-valid : goal.look_at_release-requires-clause-valid
+look_at_release-requires-clause-valid c = c.requires.states.valid
 
 pub look_at_release-requires-clause-known : goal.look_at_release-requires-clause-known
 look_at_release-requires-clause-known c = omega (arith, c.requires.states.count)
@@ -37,7 +37,7 @@ pub look_at_release-requires-clause-state : goal.look_at_release-requires-clause
 look_at_release-requires-clause-state c = c.loop-task.invariant.states.rest c.loop-task.task (omega arith) (omega (arith, c.requires.states.count))
 
 pub look_at_release-requires-clause-room : goal.look_at_release-requires-clause-room
-look_at_release-requires-clause-room c = omega (arith, c.loop-task.invariant.few, c.requires.states.count, c.requires.states.of.valid.some_tasks.1)
+look_at_release-requires-clause-room c = omega (arith, c.loop-task.invariant.few, c.requires.states.count, c.requires.states.valid.some_tasks.1)
 
 pub loop-task-preserved : goal.loop-task-preserved
 loop-task-preserved c =
@@ -75,9 +75,9 @@ look_at_release-requires-clause-due c = c.loop-task.invariant.dues.each c.loop-t
 pub look_at_release-requires-clause-best : goal.look_at_release-requires-clause-best
 look_at_release-requires-clause-best c =
     let offers : AreOffers c.args.set.now c.loop-task.states = record {
-      of = c.requires.states.of;
+      valid = c.requires.states.valid;
       count = c.loop-task.invariant.states.count;
-      few = λ task known. omega (arith, between_few c.args.set.now (slots c.args.set.now c.args.now) c.args.now c.loop-task.task c.loop-task.states c.loop-task.invariant.states c.requires.states.of.valid task known, c.requires.now);
+      few = λ task known. omega (arith, between_few c.args.set.now (slots c.args.set.now c.args.now) c.args.now c.loop-task.task c.loop-task.states c.loop-task.invariant.states c.requires.states.valid task known, c.requires.now);
     } in
     subst (λ (o : Option Job). ForSome o (IsJob c.args.set.now)) (sym c.loop-task.invariant.best)
     (best_known c.args.set.now c.loop-task.states (length c.args.set.now.tasks) offers (omega (arith, c.loop-task.invariant.states.count)))
@@ -96,7 +96,7 @@ returns-clause-last c = c.loop-task.invariant.last
 
 pub returns-clause-states : goal.returns-clause-states
 returns-clause-states c = record {
-  of = c.requires.states.of;
+  valid = c.requires.states.valid;
   count = c.loop-task.invariant.states.count;
   each = λ task known. c.loop-task.invariant.states.done task (omega (arith, c.requires.states.count));
 }
@@ -107,4 +107,4 @@ returns-clause-told c =
     ∙ ap (λ (es : List Event). c.args.events.now.items ++ es) (releases_all c.args.set.now c.args.now c.loop-task.task (omega (arith, c.requires.states.count)))
 
 pub returns-clause-few : goal.returns-clause-few
-returns-clause-few c = omega (arith, c.loop-task.invariant.few, c.requires.states.count, c.requires.states.of.valid.some_tasks.1)
+returns-clause-few c = omega (arith, c.loop-task.invariant.few, c.requires.states.count, c.requires.states.valid.some_tasks.1)

@@ -8,7 +8,7 @@ pub loop-task-init : goal.loop-task-init
 loop-task-init c = record { told = sym (append-nil _); few = omega arith }
 
 pub tell_miss-requires-clause-room : goal.tell_miss-requires-clause-room
-tell_miss-requires-clause-room c = omega (arith, c.loop-task.invariant.few, c.requires.states.count, c.requires.states.of.valid.some_tasks.1)
+tell_miss-requires-clause-room c = omega (arith, c.loop-task.invariant.few, c.requires.states.count, c.requires.states.valid.some_tasks.1)
 
 pub loop-task-preserved : goal.loop-task-preserved
 loop-task-preserved c = record {
@@ -23,4 +23,4 @@ returns-clause-told c =
     ∙ ap (λ (es : List Event). c.args.events.now.items ++ es) (misses_all c.args.set.now c.args.now c.loop-task.task (omega (arith, c.requires.states.count)))
 
 pub returns-clause-few : goal.returns-clause-few
-returns-clause-few c = omega (arith, c.loop-task.invariant.few, c.requires.states.count, c.requires.states.of.valid.some_tasks.1)
+returns-clause-few c = omega (arith, c.loop-task.invariant.few, c.requires.states.count, c.requires.states.valid.some_tasks.1)
