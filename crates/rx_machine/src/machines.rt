@@ -38,8 +38,8 @@ impl Model for Machine {
 }
 
 impl Machine {
-    /// The machine of a call on an object of the layout, which has made no step. The call fits the object. It takes time
-    /// that grows with the number of objects.
+    /// The machine of a call on an object of the layout, which has made no step. The call fits the object. It takes
+    /// constant time.
     pub fn start(layout: &Layout, object: u32, call: Call) -> Machine
         requires exists { object < length layout.now.parts }
         requires fits { fits_part (part_at layout.now.parts object) call ≡ true }
@@ -51,8 +51,7 @@ impl Machine {
     }
 
     /// Makes it the machine of another call, on an object of this layout, as `start` does. It may be in the midst of an
-    /// attempt, which is then dropped. It builds nothing and clears nothing, and takes time that grows with the number of
-    /// objects.
+    /// attempt, which is then dropped. It builds nothing and clears nothing, and takes constant time.
     pub fn restart(&mut self, layout: &Layout, object: u32, call: Call)
         requires exists { object < length layout.now.parts }
         requires fits { fits_part (part_at layout.now.parts object) call ≡ true }

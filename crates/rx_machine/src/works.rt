@@ -53,7 +53,7 @@ pub struct Work {
     pub reply: Reply,
 }
 
-/// The places of an object of a layout. It takes time that grows with the number of objects.
+/// The places of an object of a layout. It takes constant time.
 pub fn home_of(layout: &Layout, object: u32) -> Home
     requires { object < length layout.now.parts }
     ensures place { result ≡ place_of layout.now object }

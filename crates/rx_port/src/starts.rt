@@ -44,8 +44,7 @@ fn own_places(alloc: Global, layout: &Layout, seat: u32, object: u32) -> Result<
     Ok(own)
 }
 
-/// The places of the start that a seat owns, for each object. It takes time that grows with the number of places and the
-/// square of the number of objects.
+/// The places of the start that a seat owns, for each object. It takes time that grows with the number of places.
 pub fn own_of_seat(alloc: Global, layout: &Layout, seat: u32) -> Result<Vec<Vec<u32>>, NoMemory>
     requires { seat < layout.now.seats }
     ensures { IfOk result (λ own. lists own.items ≡ starts layout.now seat 0 layout.now.parts) }

@@ -21,8 +21,8 @@ ordered = record { kind = Ordered; cap = 1 }
 abbrev registers : Part
 registers = record { kind = Registers; cap = 4 }
 
-abbrev row : ℕ → ℕ → ℕ → Row
-row i old new = record { i = i; old = old; new = new }
+abbrev change : ℕ → ℕ → ℕ → Row
+change i old new = record { i = i; old = old; new = new }
 
 -- one call on each of the four registers
 abbrev all_four : (a b c d : Row) → Call
@@ -78,10 +78,10 @@ pub insert_between : effect (record { kind = Ordered; cap = 4 }) (3 ∷ 9 ∷ []
 insert_between = refl
 
 -- four registers are written at once, if all have their old values; the first that differs is told
-pub multi : effect registers (0 ∷ 0 ∷ 0 ∷ 0 ∷ []) (all_four (row 0 0 5) (row 1 0 6) (row 2 0 7) (row 3 0 8)) ≡ answers (5 ∷ 6 ∷ 7 ∷ 8 ∷ []) (Done 4)
+pub multi : effect registers (0 ∷ 0 ∷ 0 ∷ 0 ∷ []) (all_four (change 0 0 5) (change 1 0 6) (change 2 0 7) (change 3 0 8)) ≡ answers (5 ∷ 6 ∷ 7 ∷ 8 ∷ []) (Done 4)
 multi = refl
 
-pub multi_differs : effect registers (5 ∷ 6 ∷ 7 ∷ 8 ∷ []) (all_four (row 0 5 1) (row 1 6 1) (row 2 9 1) (row 3 8 1)) ≡ answers (5 ∷ 6 ∷ 7 ∷ 8 ∷ []) (Differs 7)
+pub multi_differs : effect registers (5 ∷ 6 ∷ 7 ∷ 8 ∷ []) (all_four (change 0 5 1) (change 1 6 1) (change 2 9 1) (change 3 8 1)) ≡ answers (5 ∷ 6 ∷ 7 ∷ 8 ∷ []) (Differs 7)
 multi_differs = refl
 
 pub read : effect registers (5 ∷ 6 ∷ 7 ∷ 8 ∷ []) (Read 2) ≡ answers (5 ∷ 6 ∷ 7 ∷ 8 ∷ []) (Done 7)
@@ -145,16 +145,16 @@ pub fits_shift_to_itself : fits_part registers (Shift 3 3 8) ≡ false
 fits_shift_to_itself = refl
 
 -- a transaction names 1 to 4 registers, none twice, and has zeros after its rows
-pub fits_multi : fits_part registers (Multi 2 (row 0 0 5 ∷ row 1 0 6 ∷ row 0 0 0 ∷ row 0 0 0 ∷ [])) ≡ true
+pub fits_multi : fits_part registers (Multi 2 (change 0 0 5 ∷ change 1 0 6 ∷ change 0 0 0 ∷ change 0 0 0 ∷ [])) ≡ true
 fits_multi = refl
 
-pub fits_repeat : fits_part registers (Multi 2 (row 1 0 5 ∷ row 1 0 6 ∷ row 0 0 0 ∷ row 0 0 0 ∷ [])) ≡ false
+pub fits_repeat : fits_part registers (Multi 2 (change 1 0 5 ∷ change 1 0 6 ∷ change 0 0 0 ∷ change 0 0 0 ∷ [])) ≡ false
 fits_repeat = refl
 
-pub fits_no_rows : fits_part registers (Multi 0 (row 0 0 0 ∷ row 0 0 0 ∷ row 0 0 0 ∷ row 0 0 0 ∷ [])) ≡ false
+pub fits_no_rows : fits_part registers (Multi 0 (change 0 0 0 ∷ change 0 0 0 ∷ change 0 0 0 ∷ change 0 0 0 ∷ [])) ≡ false
 fits_no_rows = refl
 
-pub fits_no_zeros : fits_part registers (Multi 1 (row 0 0 5 ∷ row 1 0 6 ∷ row 0 0 0 ∷ row 0 0 0 ∷ [])) ≡ false
+pub fits_no_zeros : fits_part registers (Multi 1 (change 0 0 5 ∷ change 1 0 6 ∷ change 0 0 0 ∷ change 0 0 0 ∷ [])) ≡ false
 fits_no_zeros = refl
 
 -- a longer queue gives back first what came first
@@ -176,16 +176,16 @@ pub short_before_over : effect registers (1 ∷ 4294967295 ∷ 0 ∷ 0 ∷ []) (
 short_before_over = refl
 
 -- two of the rows differ, and the first of them is told
-pub multi_first : effect registers (5 ∷ 6 ∷ 7 ∷ 8 ∷ []) (all_four (row 3 8 1) (row 1 0 1) (row 2 0 1) (row 0 5 1)) ≡ answers (5 ∷ 6 ∷ 7 ∷ 8 ∷ []) (Differs 6)
+pub multi_first : effect registers (5 ∷ 6 ∷ 7 ∷ 8 ∷ []) (all_four (change 3 8 1) (change 1 0 1) (change 2 0 1) (change 0 5 1)) ≡ answers (5 ∷ 6 ∷ 7 ∷ 8 ∷ []) (Differs 6)
 multi_first = refl
 
 -- a transaction of two rows
-pub multi_two : effect registers (5 ∷ 6 ∷ 7 ∷ 8 ∷ []) (Multi 2 (row 2 7 9 ∷ row 0 5 1 ∷ row 0 0 0 ∷ row 0 0 0 ∷ [])) ≡ answers (1 ∷ 6 ∷ 9 ∷ 8 ∷ []) (Done 2)
+pub multi_two : effect registers (5 ∷ 6 ∷ 7 ∷ 8 ∷ []) (Multi 2 (change 2 7 9 ∷ change 0 5 1 ∷ change 0 0 0 ∷ change 0 0 0 ∷ [])) ≡ answers (1 ∷ 6 ∷ 9 ∷ 8 ∷ []) (Done 2)
 multi_two = refl
 
 -- a register past the last one fits no call
 pub fits_far_shift : fits_part registers (Shift 0 4 1) ≡ false
 fits_far_shift = refl
 
-pub fits_far_multi : fits_part registers (Multi 1 (row 4 0 5 ∷ row 0 0 0 ∷ row 0 0 0 ∷ row 0 0 0 ∷ [])) ≡ false
+pub fits_far_multi : fits_part registers (Multi 1 (change 4 0 5 ∷ change 0 0 0 ∷ change 0 0 0 ∷ change 0 0 0 ∷ [])) ≡ false
 fits_far_multi = refl

@@ -30,7 +30,7 @@ fn run(rt: &impl Abort, part: Part, steps: &[Step])
     }
 }
 
-const fn row(i: u32, old: u32, new: u32) -> Row {
+const fn change(i: u32, old: u32, new: u32) -> Row {
     Row { i, old, new }
 }
 
@@ -101,10 +101,20 @@ fn registers(rt: HostRuntime) {
         cap: 4,
     };
     let most = 4_294_967_295;
-    let first = [row(0, 0, 5), row(1, 0, 6), row(2, 0, 7), row(3, 0, 8)];
-    let second = [row(0, 5, 1), row(1, 6, 1), row(2, 9, 1), row(3, 8, 1)];
+    let first = [
+        change(0, 0, 5),
+        change(1, 0, 6),
+        change(2, 0, 7),
+        change(3, 0, 8),
+    ];
+    let second = [
+        change(0, 5, 1),
+        change(1, 6, 1),
+        change(2, 9, 1),
+        change(3, 8, 1),
+    ];
     let third = [
-        row(0, 13, most),
+        change(0, 13, most),
         Row::default(),
         Row::default(),
         Row::default(),
@@ -146,7 +156,12 @@ fn registers(rt: HostRuntime) {
             ),
         ],
     );
-    let repeated = [row(1, 0, 5), row(1, 0, 6), Row::default(), Row::default()];
+    let repeated = [
+        change(1, 0, 5),
+        change(1, 0, 6),
+        Row::default(),
+        Row::default(),
+    ];
     let misfits = [
         Call::Get,
         Call::Read { i: 4 },

@@ -1,5 +1,6 @@
 pub mod Times
 pub mod Numbering
+mod Ends
 pub mod Local
 pub mod InlinePlans
 pub mod BlockForm

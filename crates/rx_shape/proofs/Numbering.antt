@@ -9,7 +9,7 @@ use Rattle.rx_seq.specs.declared.kinds.Part.{Part}
 use Rattle.rx_seq.specs.Table.{IsCap, IsPart}
 use Rattle.rx_seq.specs.History.{no_part, part_at}
 use Rattle.rx_shape.specs.Forms.{Form, inline, block, form_of, stock_as, stock_size, InRange}
-use Rattle.rx_shape.specs.Layout.{Layout, IsLayout, places_of, all_places, words_of, place_after, first_as, home}
+use Rattle.rx_shape.specs.Layout.{Layout, IsLayout, places_of, all_places, words_of, end_after, place_after, first_as, home}
 
 pub stock_few : (kind : Kind) (cap : ℕ) → IsCap kind cap → stock_as (form_of kind) cap ≤ 65
 stock_few Cell cap h = omega arith
@@ -27,8 +27,11 @@ all_few seats parts zero h few = omega arith
 all_few seats [] (suc object) h few = omega arith
 all_few seats (part ∷ parts) (suc object) h few = let a = places_few seats part (h 0 no_part (omega arith)) few in let r = all_few seats parts object (λ k other below. h (suc k) other (omega arith)) few in omega arith
 
+pub end_few : (seats : ℕ) (parts : List Part) (objects : ℕ) → length parts ≤ 16 → All IsPart parts → seats ≤ 64 → end_after seats parts objects ≤ 67617
+end_few seats parts objects few good h = let a = all_few seats parts objects good h in omega arith
+
 pub place_few : (layout : Layout) (object : ℕ) → IsLayout layout → place_after layout object ≤ 67617
-place_few layout object h = let a = all_few layout.seats layout.parts object h.parts h.seats in let f = h.few in omega arith
+place_few layout object h = end_few layout.seats layout.parts object h.few h.parts h.seats
 
 -- the places of one more object
 pub one_more : (seats : ℕ) (parts : List Part) (object : ℕ) (other : Part) → object < length parts → all_places seats (take (suc object) parts) ≡ all_places seats (take object parts) + places_of seats (get_or parts object other)

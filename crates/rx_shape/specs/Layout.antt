@@ -1,5 +1,5 @@
 -- The numbering of words: word 0 belongs to no object, then come the roots of the objects, and then their places.
-use Rattle.std.specs.Prelude.{ℕ, ◌+◌, ◌*◌, ◌<◌, ◌≤◌, ◌^◌, List, [], ◌∷◌, length, take, slice_index}
+use Rattle.std.specs.Prelude.{ℕ, ◌≡◌, ◌+◌, ◌*◌, ◌<◌, ◌≤◌, ◌^◌, List, [], ◌∷◌, length, take, get_or, slice_index}
 use Rattle.std.specs.List.{All}
 use Rattle.rx_seq.specs.declared.kinds.Part.{Part}
 use Rattle.rx_seq.specs.Table.{IsPart}
@@ -33,9 +33,17 @@ all_places seats (part ∷ parts) = places_of seats part + all_places seats part
 abbrev pub words_of : Layout → ℕ
 words_of layout = length layout.parts + 1 + all_places layout.seats layout.parts
 
--- where the places of an object begin
+-- where the places of the first so many objects end, and those of the next one begin
+abbrev pub end_after : ℕ → List Part → ℕ → ℕ
+end_after seats parts objects = length parts + 1 + all_places seats (take objects parts)
+
 abbrev pub place_after : Layout → ℕ → ℕ
-place_after layout object = length layout.parts + 1 + all_places layout.seats (take object layout.parts)
+place_after layout object = end_after layout.seats layout.parts object
+
+-- a list tells all these ends, from no object on
+pub record AreEnds (seats : ℕ) (parts : List Part) (ends : List ℕ) : Type 0 where
+  pub all : length ends ≡ length parts + 1
+  pub each : (objects : ℕ) → objects ≤ length parts → get_or ends objects 0 ≡ end_after seats parts objects
 
 abbrev pub first_as : Form → ℕ → ℕ
 first_as inline place = 0

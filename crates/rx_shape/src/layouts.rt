@@ -2,35 +2,38 @@
 ghost use Rattle.rx_seq.specs.History.{part_at};
 ghost use Rattle.rx_seq.specs.Table.{IsPart, start_of};
 ghost use Rattle.rx_shape.specs.Forms.{IsBlock, IsVersion, decoded, stock_size};
-ghost use Rattle.rx_shape.specs.Layout.{Layout as Numbering, IsLayout, all_places, first_place, home, place_after, places_of, root_of, words_of};
+ghost use Rattle.rx_shape.specs.Layout.{Layout as Numbering, AreEnds, IsLayout, all_places, first_place, home, place_after, places_of, root_of, words_of};
 ghost use Rattle.rx_shape.specs.Places.{read_run};
 ghost use Rattle.rx_shape.specs.Start.{start_place, start_word};
 ghost use Rattle.std.specs.List.{All};
 ghost use Rattle.std.specs.Prelude.{◌≡◌, ◌≤◌, ◌<◌, ◌+◌, ◌^◌, ◌==◌, if◌then◌else◌, IfOk, [], length, slice_index};
 
 use crate::roots::{low_of, pack};
+use arrayvec::ArrayVec;
 use rx_seq::{Kind, NoMemory, Part, State};
 use std::alloc::Global;
 use std::marker::Model;
 
 /// The parts of the objects, the number of seats, the tag at the start, and the numbering of all words that follows
 /// from these: word 0, the roots of the objects, and the places of each object that is no cell. Objects are numbered
-/// from 0. Clauses see the parts, the number of seats and the first tag.
+/// from 0. Clauses see the parts, the number of seats and the first tag. Beside these it keeps where the places of each
+/// object begin and end, so that no call on one object looks at the others.
 #[derive(Debug, Drop)]
 pub struct Layout {
     parts: Vec<Part>,
     seats: u32,
     first: u64,
+    ends: ArrayVec<u32, 17>,
 }
 
 impl Model for Layout {
-    ghost use Rattle.rx_shape.specs.Layout.{Layout as Numbering, IsLayout};
+    ghost use Rattle.rx_shape.specs.Layout.{Layout as Numbering, AreEnds, IsLayout};
 
     ghost Value = { Numbering };
 
     ghost view = { λ l. record { parts = l.parts.items; seats = l.seats; first = l.first } };
 
-    ghost invariant = { λ l. IsLayout (record { parts = l.parts.items; seats = l.seats; first = l.first }) };
+    ghost invariant = { λ l. IsLayout (record { parts = l.parts.items; seats = l.seats; first = l.first }) × AreEnds l.seats l.parts.items l.ends.items };
 }
 
 /// How many places a version of an object of this part has, and how many a seat owns of the object: 0 for a cell, and
@@ -56,13 +59,32 @@ fn places_in(part: Part, seats: u32) -> u32
     stock(part) * (seats + 1)
 }
 
+/// Where the places of the first so many objects end, for each number of objects from 0 on.
+fn ends_of(parts: &[Part], seats: u32) -> ArrayVec<u32, 17>
+    requires few { length parts.now ≤ 16 }
+    requires parts { All IsPart parts.now }
+    requires seats { seats ≤ 64 }
+    ensures { AreEnds seats parts.now result.items }
+{
+    let mut place = parts.len() as u32 + 1;
+    let mut ends = ArrayVec::new();
+    ends.push(place);
+    for object in 0..parts.len() {
+        place += places_in(parts[object], seats);
+        ends.push(place);
+    }
+    ends
+}
+
 impl Layout {
     /// The layout of these objects: at most 16 parts within their limits, 1 to 64 seats, and a first tag of at most 40
-    /// bits, with which each object starts. `NoMemory` is the one refusal, where there is no memory for the parts.
+    /// bits, with which each object starts. `NoMemory` is the one refusal, where there is no memory for the parts. It takes
+    /// time that grows with the number of objects.
     pub fn new(alloc: Global, parts: &[Part], seats: u32, first: u64) -> Result<Layout, NoMemory>
         requires { IsLayout (record { parts = parts.now; seats = seats; first = first }) }
         ensures { IfOk result (λ layout. layout ≡ record { parts = parts.now; seats = seats; first = first }) }
     {
+        let ends = ends_of(parts, seats);
         let parts = match Vec::from_slice(alloc, parts) {
             Ok(parts) => parts,
             Err(_) => return Err(NoMemory),
@@ -71,6 +93,7 @@ impl Layout {
             parts,
             seats,
             first,
+            ends,
         })
     }
 
@@ -96,7 +119,7 @@ impl Layout {
         self.first
     }
 
-    /// How many words there are, at most 67,617. It takes time that grows with the number of objects.
+    /// How many words there are, at most 67,617. It takes constant time.
     pub fn words(&self) -> u32
         ensures value { result ≡ words_of self.now }
         ensures bound { result ≤ 67617 }
@@ -110,14 +133,10 @@ impl Layout {
         ensures value { result ≡ place_after self.now object }
         ensures bound { result ≤ 67617 }
     {
-        let mut place = self.parts.len() as u32 + 1;
-        for before in 0..object as usize {
-            place += places_in(self.parts[before], self.seats);
-        }
-        place
+        self.ends[object as usize]
     }
 
-    /// The object's first place, and 0 for a cell. It takes time that grows with the number of objects.
+    /// The object's first place, and 0 for a cell. It takes constant time.
     pub fn first_place(&self, object: u32) -> u32
         requires { object < length self.now.parts }
         ensures value { result ≡ first_place self.now object }

@@ -16,7 +16,7 @@ read_block-requires c =
     record {
       empty = c.clear.ensures;
       block = rw (c.low_of-low.ensures.value)
-          (block_from (record { parts = c.self.inside.parts.items; seats = c.self.inside.seats; first = c.self.inside.first }) c.args.object (root_of c.args.words.now c.args.object) c.args.words.now c.self.invariant object words
+          (block_from (record { parts = c.self.inside.parts.items; seats = c.self.inside.seats; first = c.self.inside.first }) c.args.object (root_of c.args.words.now c.args.object) c.args.words.now c.self.invariant.0 object words
           (λ e. c.in_default.not-Cell (ap (λ (x : Part). x.kind) part ∙ e)) version);
     }
 

@@ -7,7 +7,7 @@ use Rattle.rx_shape.proofs.layouts.Layout.start_place.Goals as goal
 pub overflow_add-first-in-loop-object : goal.overflow_add-first-in-loop-object
 overflow_add-first-in-loop-object c =
     let first = rw (← c.self.view_is) at c.loop-object.invariant.first in
-    let few = place_few (record { parts = c.self.inside.parts.items; seats = c.self.inside.seats; first = c.self.inside.first }) c.loop-object.object c.self.invariant in omega (arith, c.places_in-count.ensures.bound)
+    let few = place_few (record { parts = c.self.inside.parts.items; seats = c.self.inside.seats; first = c.self.inside.first }) c.loop-object.object c.self.invariant.0 in omega (arith, c.places_in-count.ensures.bound)
 
 pub returns-then-place-first : goal.returns-then-place-first
 returns-then-place-first c = rw (← c.self.view_is)
