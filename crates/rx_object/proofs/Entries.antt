@@ -1,9 +1,10 @@
 -- Entries that were added to a history.
-use Rattle.std.proofs.Common.{◌≡◌, ◌≢◌, ℕ, zero, suc, ◌+◌, ◌<◌, ◌≤◌, Bool, true, false, cond, List, [], ◌∷◌, ◌++◌, length, refl, sym, ap, ◌∙◌, arith, append_assoc}
-use Rattle.std.specs.Prelude.{◌==◌, ◌&&◌, if◌then◌else◌}
+use Rattle.std.proofs.Common.{◌≡◌, ℕ, ◌+◌, Bool, true, false, List, [], ◌∷◌, ◌++◌, length, refl, sym, ap, ◌∙◌, arith, append_assoc}
+use Rattle.std.specs.Prelude.{◌==◌, if◌then◌else◌}
+use Rattle.std.proofs.lemmas.Bool.{eq-eqb}
 use Rattle.rx_seq.specs.declared.kinds.Part.{Part}
 use Rattle.rx_seq.specs.declared.entries.Entry.{Entry}
-use Rattle.rx_seq.specs.History.{is_loud, tag_of as count_loud}
+use Rattle.rx_seq.specs.History.{tag_of as count_loud}
 use Rattle.rx_seq.specs.Legal.{IsLegal, entries_of}
 use Rattle.rx_port.specs.Lawful.{IsOlder}
 
@@ -38,3 +39,20 @@ legal_older parts first (x ∷ newer) older h = legal_older parts first newer ol
 
 pub older_trans : (a b c : List Entry) → IsOlder a b → IsOlder b c → IsOlder a c
 older_trans a b c h k = (k.0 ++ h.0, k.1 ∙ ap (λ (l : List Entry). k.0 ++ l) h.1 ∙ sym (append_assoc k.0 h.0 a))
+
+none_front : (xs ys : List Entry) → xs ++ ys ≡ [] → xs ≡ []
+none_front [] ys e = refl
+none_front (x ∷ xs) ys e = absurd (let m = ap length e in omega arith)
+
+-- where a caller has no entries, it has none among the newer ones
+pub none_newer : (caller : ℕ) (newer older : List Entry) → entries_of caller (newer ++ older) ≡ [] → entries_of caller newer ≡ []
+none_newer caller newer older e = none_front (entries_of caller newer) (entries_of caller older) (sym (entries-append caller newer older) ∙ e)
+
+own_first : (x : Entry) (xs : List Entry) (b : Bool) → b ≡ true → (if b then x ∷ entries_of x.caller xs else entries_of x.caller xs) ≡ [] → ⊥
+own_first x xs true is e = let n = ap length e in omega arith
+own_first x xs false is e = cc
+
+-- where no caller has entries, there are none
+pub none_of_any : (xs : List Entry) → ((caller : ℕ) → entries_of caller xs ≡ []) → xs ≡ []
+none_of_any [] h = refl
+none_of_any (x ∷ xs) h = absurd (own_first x xs (x.caller == x.caller) (eq-eqb x.caller x.caller refl) (h x.caller))

@@ -1,9 +1,9 @@
 -- Seats of a table that make calls, one after the other.
-use Rattle.std.proofs.Common.{◌≡◌, ◌≢◌, ℕ, ◌+◌, ◌<◌, List, [], ◌∷◌, ◌++◌, length, set, get_or, sym, ap, ◌∙◌, subst, ⊎_elim, arith}
+use Rattle.std.proofs.Common.{◌≡◌, ◌≢◌, ℕ, zero, suc, ◌<◌, List, [], ◌∷◌, ◌++◌, length, length-append, set, get_or, refl, sym, ap, ◌∙◌, subst, ⊎_elim, arith}
 use Rattle.std.proofs.lemmas.List.{length-set}
-use mathlib.Core.Option.{some}
+use mathlib.Core.Option.{some, some-injective, some-ne-none}
 use lib.ListN.{get_elem?}
-use Rattle.atomic_table.proofs.Lists.{at_index}
+use Rattle.atomic_table.proofs.Lists.{at_index, at_longer, at_last}
 use Rattle.rx_seq.specs.declared.calls.Call.{Call}
 use Rattle.rx_shape.specs.Layout.{Layout}
 use Rattle.rx_port.specs.declared.views.View.{View}
@@ -37,3 +37,26 @@ seats_again board seats n old new h below here ours number = record {
       (λ (x : (j ≢ n) × (get_elem? seats j ≡ some seat)). h.each j seat x.1)
       (at_set seats n j new seat at);
 }
+
+-- the two seats of a table that has two
+pub two_of : (board : Board) (all rest few : List Sitting) (first second : Sitting) → AreSeats board all → board.layout.seats ≡ 2 → all ≡ rest ++ second ∷ [] → rest ≡ few ++ first ∷ []
+    → (IsSeatOf board first × (first.view.number ≡ 0)) × (IsSeatOf board second × (second.view.number ≡ 1))
+two_of board all rest few first second h two is then_is =
+    let all_many = ap length is ∙ length-append rest (second ∷ []) in
+    let rest_many = ap length then_is ∙ length-append few (first ∷ []) in
+    let many = h.many in
+    let one : length rest ≡ 1 = omega arith in
+    let none : length few ≡ 0 = omega arith in
+    let last = at_last rest second (length rest) refl in
+    let next = at_longer rest (second ∷ []) (length few) first (subst (λ (xs : List Sitting). get_elem? xs (length few) ≡ some first) (sym then_is) (at_last few first (length few) refl)) in
+    let b = h.each (length rest) second (subst (λ (xs : List Sitting). get_elem? xs (length rest) ≡ some second) (sym is) last) in
+    let a = h.each (length few) first (subst (λ (xs : List Sitting). get_elem? xs (length few) ≡ some first) (sym is) next) in ((a.0, a.1 ∙ none), (b.0, b.1 ∙ one))
+
+pub are_two : (board : Board) (seats : List Sitting) (first second : Sitting) → board.layout.seats ≡ 2 → IsSeatOf board first × (first.view.number ≡ 0) → IsSeatOf board second × (second.view.number ≡ 1)
+    → seats ≡ first ∷ second ∷ [] → AreSeats board seats
+are_two board seats first second two a b is = record { many = ap length is ∙ sym two; each = λ number seat at. at_place number seat (subst (λ (xs : List Sitting). get_elem? xs number ≡ some seat) is at) }
+  where
+    at_place : (number : ℕ) (seat : Sitting) → get_elem? (first ∷ second ∷ []) number ≡ some seat → IsSeatOf board seat × (seat.view.number ≡ number)
+    at_place zero seat at = let same = some-injective first seat at in (subst (IsSeatOf board) same a.0, ap (λ (x : Sitting). x.view.number) (sym same) ∙ a.1)
+    at_place (suc zero) seat at = let same = some-injective second seat at in (subst (IsSeatOf board) same b.0, ap (λ (x : Sitting). x.view.number) (sym same) ∙ b.1)
+    at_place (suc (suc number)) seat at = absurd (some-ne-none seat (sym at))

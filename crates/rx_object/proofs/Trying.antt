@@ -1,9 +1,7 @@
 -- What the steps of an attempt make of the seat.
-use Rattle.std.proofs.Common.{◌≡◌, ◌≢◌, ℕ, zero, suc, ◌+◌, ◌<◌, ◌≤◌, ◌^◌, Bool, true, false, cond, List, [], ◌∷◌, ◌++◌, length, refl, sym, ap, ◌∙◌, subst, ◌⊎◌, inl, inr, ⊎_elim, arith, append_assoc}
+use Rattle.std.proofs.Common.{◌≡◌, ◌≢◌, ℕ, ◌+◌, ◌<◌, ◌≤◌, ◌^◌, Bool, true, false, List, [], ◌∷◌, ◌++◌, length, refl, sym, ap, ◌∙◌, subst, ◌⊎◌, ⊎_elim, arith}
 use Rattle.std.specs.Prelude.{◌==◌, Option, Some, None, option_map}
 use Rattle.std.proofs.lemmas.Bool.{eq-eqb, ne_eqb}
-use mathlib.Core.Option.{some}
-use lib.ListN.{get_elem?}
 use Rattle.rx_seq.specs.declared.calls.Call.{Call}
 use Rattle.rx_seq.specs.declared.entries.Entry.{Entry}
 use Rattle.rx_seq.specs.declared.replies.Reply.{Reply}
@@ -11,23 +9,23 @@ use Rattle.rx_seq.specs.History.{tag_of as count_loud}
 use Rattle.rx_seq.specs.Legal.{IsLegal, entries_of}
 use Rattle.rx_shape.specs.declared.plans.Pair.{Pair}
 use Rattle.rx_shape.specs.Words.{tag_of}
-use Rattle.rx_shape.specs.Layout.{Layout, root_of}
+use Rattle.rx_shape.specs.Layout.{Layout}
 use Rattle.rx_port.specs.declared.views.Attempt.{Attempt}
 use Rattle.rx_port.specs.declared.views.Exchange.{Exchange}
 use Rattle.rx_port.specs.declared.views.Known.{Known}
 use Rattle.rx_port.specs.declared.views.View.{View}
 use Rattle.rx_port.specs.declared.views.Core.{Core}
-use Rattle.rx_port.specs.Core.{tag_after, begun_known, begun_view, decided_known, decided_view, entry_for, history_after, exchange_of, traded_own}
-use Rattle.rx_port.specs.Lawful.{IsOlder, IsKnown, Lawful}
-use Rattle.rx_port.specs.Events.{Found, Begun, DidRead, DidWrite, Decided}
+use Rattle.rx_port.specs.Core.{tag_after, begun_known, new_attempt, decided_known, entry_for, exchange_of, traded_own}
+use Rattle.rx_port.specs.Lawful.{IsOlder, IsKnown}
+use Rattle.rx_port.specs.Events.{Found, Begun, Decided}
 use Rattle.rx_port.proofs.Lists.{some_here}
 use Rattle.rx_port.proofs.Histories.{mine_here, legal_more}
 use Rattle.rx_table.specs.Boards.{Board, Sitting, IsSeatOf}
 use Rattle.rx_table.specs.Seats.{Keeps}
-use Rattle.rx_machine.specs.Operations.{Progress, Operation, Outlook, Unsettled, attempt_for, begun, goes_on, lost, over}
-use Rattle.rx_machine.specs.Steps.{Loads, Spends, Reads, Writes, Idles, Wins, Loses, Decides}
-use Rattle.rx_object.specs.Calls.{exchange, IsDone, HasWaited, IsLost, IsSpent}
-use Rattle.rx_object.proofs.Entries.{none_between, count-append, legal_older, older_trans}
+use Rattle.rx_machine.specs.Operations.{Progress, Operation, attempt_for, lost}
+use Rattle.rx_machine.specs.Steps.{Loads, Spends, Reads, Writes, Wins, Loses}
+use Rattle.rx_object.specs.Calls.{exchange, IsDone, IsLost, IsSpent}
+use Rattle.rx_object.proofs.Entries.{none_between, none_newer, count-append, older_trans}
 
 -- an attempt was begun: the seat has seen a longer history, and nothing else it has changed
 pub record Opened (layout : Layout) (object : ℕ) (before now : View) (expected : ℕ) : Type 0 where
@@ -39,6 +37,7 @@ pub record Opened (layout : Layout) (object : ℕ) (before now : View) (expected
   pub mine : known.mine ≡ entries_of before.number history
   pub all_mine : known.mine ≡ entries_of before.number known.seen
   pub legal : IsLegal layout.parts layout.first history
+  pub seated : (seat : ℕ) → layout.seats ≤ seat → entries_of seat history ≡ []
   pub tag : tag_of expected ≡ tag_after layout history object
   pub own : now.own ≡ before.own
   pub number : now.number ≡ before.number
@@ -46,6 +45,10 @@ pub record Opened (layout : Layout) (object : ℕ) (before now : View) (expected
 -- what the rule says of what a seat knows
 known_found : (l : Layout) (stood : Core → Type 0) (v : View) (core : Core) (es : List Entry) (k : Known) → Found l stood v core es → v.known ≡ Some k → IsKnown es v.number k
 known_found l stood v core es k h is = some_here (λ (x : Known). IsKnown es v.number x) v.known k is (h.lawful.seats v.number v h.here).known
+
+-- no entry is of a seat that the table has not
+none_past : (l : Layout) (stood : Core → Type 0) (v : View) (core : Core) (es : List Entry) → Found l stood v core es → (seat : ℕ) → l.seats ≤ seat → entries_of seat es ≡ []
+none_past l stood v core es h seat past = let few = h.lawful.few in h.lawful.made seat (omega arith)
 
 module _ (l : Layout) (stood stands : Core → Type 0) where
   pub opened_from : (v w : View) (object : ℕ) (call : Call) (root : ℕ) → object < length l.parts → Keeps v → Begun l stood stands v w object call root → Opened l object v w root
@@ -59,6 +62,7 @@ module _ (l : Layout) (stood stands : Core → Type 0) where
         mine = k.mine;
         all_mine = keeps.all_mine;
         legal = e.found.lawful.legal;
+        seated = none_past l stood v e.core e.history e.found;
         tag = ap tag_of e.root_is ∙ e.found.lawful.tags object there;
         own = ap (λ (x : View). x.own) e.view_is;
         number = ap (λ (x : View). x.number) e.view_is;
@@ -74,6 +78,7 @@ module _ (l : Layout) (stood stands : Core → Type 0) where
     mine = h.mine;
     all_mine = h.all_mine;
     legal = h.legal;
+    seated = h.seated;
     tag = h.tag;
     own = own ∙ h.own;
     number = number ∙ h.number;
@@ -84,6 +89,7 @@ module _ (l : Layout) (stood stands : Core → Type 0) where
     pub between : List Entry
     pub history_is : history ≡ between ++ known.seen
     pub others : entries_of before.number between ≡ []
+    pub seated : (seat : ℕ) → l.seats ≤ seat → entries_of seat between ≡ []
     pub mine : known.mine ≡ entries_of before.number history
 
   pub grown_from : (object : ℕ) (before v : View) (root : ℕ) (h : Opened l object before v root) (core : Core) (es : List Entry) → Found l stood v core es → Grown before h.known es
@@ -95,6 +101,7 @@ module _ (l : Layout) (stood stands : Core → Type 0) where
         between = older.0;
         history_is = older.1;
         others = none_between before.number older.0 h.known.seen (ap (entries_of before.number) (sym older.1) ∙ sym mine ∙ h.all_mine);
+        seated = λ seat past. none_newer seat older.0 h.known.seen (ap (entries_of seat) (sym older.1) ∙ none_past l stood v core es f seat past);
         mine = mine;
       }
 
@@ -125,6 +132,7 @@ module _ (l : Layout) (stood stands : Core → Type 0) where
         tag_is = tag_is ∙ ap (λ (n : ℕ). (entry_for l e.history n object call).tag) h.number ∙ ap (λ (y : Entry). y.tag) later;
         legal = legal_more l e.history v.number a.object a.call e.found.lawful.legal;
         others = g.others;
+        seated = g.seated;
         many = omega arith;
         mine = mine;
         all_mine = ap (λ (y : Entry). y ∷ h.known.mine) x_is ∙ ap (λ (ys : List Entry). entry e.history ∷ ys) g.mine ∙ sym (mine_here l e.history before.number object call)
@@ -161,6 +169,7 @@ module _ (l : Layout) (stood stands : Core → Type 0) where
           between = g.between;
           seen = g.history_is;
           others = g.others;
+          seated = g.seated;
           many = omega arith;
           few = omega arith;
           mine = refl;
@@ -177,8 +186,9 @@ module _ (l : Layout) (stood stands : Core → Type 0) where
       }
 
 -- the root that was loaded has the last tag
-pub spent_from : (l : Layout) (object : ℕ) (before w : View) (root tag : ℕ) → Opened l object before w root → tag ≡ tag_of root → tag_of root + 1 ≡ 2 ^ 40 → IsSpent l before w object tag 0
-spent_from l object before w root tag h is last = record {
+pub spent_from : (l : Layout) (object : ℕ) (call : Call) (before w : View) (root tag : ℕ) → Opened l object before w root → w.attempt ≡ Some (new_attempt object call root) → tag ≡ tag_of root → tag_of root + 1 ≡ 2 ^ 40
+    → IsSpent l before w object call tag 0
+spent_from l object call before w root tag h opened is last = record {
   known = h.known;
   is = h.is;
   after = begun_known h.history h.known;
@@ -187,12 +197,16 @@ spent_from l object before w root tag h is last = record {
   seen = h.seen.1;
   legal = h.legal;
   others = none_between before.number h.seen.0 h.known.seen (ap (entries_of before.number) (sym h.seen.1) ∙ sym h.mine ∙ h.all_mine);
+  seated = λ seat past. none_newer seat h.seen.0 h.known.seen (ap (entries_of seat) (sym h.seen.1) ∙ h.seated seat past);
   many = omega arith;
   mine = refl;
   begins = omega arith;
   exchanges = omega arith;
   tag_is = is ∙ h.tag;
   last = ap (λ (n : ℕ). n + 1) is ∙ last;
+  root = root;
+  root_is = is;
+  opened = opened;
   own = h.own;
   number = h.number;
 }
@@ -253,11 +267,11 @@ module _ (l : Layout) (stood stands : Core → Type 0) (before v w : View) (old 
       (lost_from l stood stands old.object before v w (attempt_for old s.decides.progress) s.decides.root found s.decides.pairs o s.decides.event refl there
       (subst (λ (n : ℕ). found ≢ n) is s.apart) (subst (λ (n : ℕ). tag_of n < tag_of found) is s.higher) s.tag_is)
 
-  pub spent_so : (tag : ℕ) → Spends l stood stands v w old new tag → IsInAttempt l old.object before v old.progress → Keeps before → old.object < length l.parts → IsSpent l before w old.object tag 0
+  pub spent_so : (tag : ℕ) → Spends l stood stands v w old new tag → IsInAttempt l old.object before v old.progress → Keeps before → old.object < length l.parts → IsSpent l before w old.object old.call tag 0
   spent_so tag s h keeps there =
       let same : v ≡ before = rw (s.first) at h in
       let e : Begun l stood stands before w old.object old.call s.root = subst (λ (x : View). Begun l stood stands x w old.object old.call s.root) same s.event in
-      spent_from l old.object before w s.root tag (opened_from l stood stands before w old.object old.call s.root there keeps e) s.tag_is s.last
+      spent_from l old.object old.call before w s.root tag (opened_from l stood stands before w old.object old.call s.root there keeps e) (ap (λ (y : View). y.attempt) e.view_is) s.tag_is s.last
 
 -- a port of the same layout that has the same seat is the same port
 pub same_port : (p q : Board) (seat : Sitting) → q.layout ≡ p.layout → IsSeatOf p seat → IsSeatOf q seat → q ≡ p

@@ -1,12 +1,11 @@
 -- A call that goes on after lost attempts.
-use Rattle.std.proofs.Common.{◌≡◌, ◌≢◌, ℕ, zero, suc, ◌+◌, ◌<◌, ◌≤◌, ◌^◌, List, [], ◌∷◌, ◌++◌, length, refl, sym, ap, ◌∙◌, subst, arith, append_assoc}
+use Rattle.std.proofs.Common.{◌≡◌, ℕ, ◌+◌, ◌<◌, ◌^◌, List, [], ◌∷◌, ◌++◌, refl, sym, ap, ◌∙◌, arith, append_assoc}
 use Rattle.std.specs.Prelude.{Option, Some, None}
-use Rattle.std.proofs.lemmas.List.{append-nil}
 use Rattle.rx_seq.specs.declared.calls.Call.{Call}
 use Rattle.rx_seq.specs.declared.entries.Entry.{Entry}
 use Rattle.rx_seq.specs.declared.replies.Reply.{Reply}
 use Rattle.rx_seq.specs.History.{tag_of as count_loud}
-use Rattle.rx_seq.specs.Legal.{IsLegal, entries_of}
+use Rattle.rx_seq.specs.Legal.{entries_of}
 use Rattle.rx_shape.specs.Layout.{Layout}
 use Rattle.rx_port.specs.declared.views.Known.{Known}
 use Rattle.rx_port.specs.declared.views.View.{View}
@@ -25,6 +24,7 @@ not_waited l before object h = record {
   between = [];
   seen = refl;
   others = refl;
+  seated = λ seat past. refl;
   many = omega arith;
   few = omega arith;
   mine = refl;
@@ -66,6 +66,7 @@ module _ (l : Layout) (before middle now : View) (object lost : ℕ) (w : HasWai
         between = h.waited.between ++ w.between;
         seen = here;
         others = none_both before.number h.waited.between w.between (ap (λ (n : ℕ). entries_of n h.waited.between) (sym w.number) ∙ h.waited.others) w.others;
+        seated = λ seat past. none_both seat h.waited.between w.between (h.waited.seated seat past) (w.seated seat past);
         many = omega arith;
         few = omega arith;
         mine = h.waited.mine ∙ ap (λ (x : Known). x.mine) k ∙ w.mine;
@@ -98,6 +99,7 @@ module _ (l : Layout) (before middle now : View) (object lost : ℕ) (w : HasWai
         tag_is = h.tag_is ∙ ap (λ (x : Entry). x.tag) entry;
         legal = h.legal;
         others = none_both before.number h.between w.between (ap (λ (n : ℕ). entries_of n h.between) (sym w.number) ∙ h.others) w.others;
+        seated = λ seat past. none_both seat h.between w.between (h.seated seat past) (w.seated seat past);
         many = omega arith;
         mine = h.mine ∙ (λ i. entry i ∷ (k i).mine) ∙ ap (λ (xs : List Entry). entry_for l (both ++ w.known.seen) before.number object call ∷ xs) w.mine;
         all_mine = h.all_mine ∙ ap (λ (n : ℕ). entries_of n h.after.seen) w.number;
@@ -110,8 +112,8 @@ module _ (l : Layout) (before middle now : View) (object lost : ℕ) (w : HasWai
       }
 
   -- the tags are spent
-  pub spent_after : (tag : ℕ) → IsSpent l middle now object tag 0 → IsSpent l before now object tag lost
-  spent_after tag h =
+  pub spent_after : (call : Call) (tag : ℕ) → IsSpent l middle now object call tag 0 → IsSpent l before now object call tag lost
+  spent_after call tag h =
       let k : h.known ≡ w.after = same_known middle h.known w.after h.is w.after_is in
       let both : List Entry = h.between ++ w.between in
       let here : h.between ++ h.known.seen ≡ both ++ w.known.seen =
@@ -129,12 +131,16 @@ module _ (l : Layout) (before middle now : View) (object lost : ℕ) (w : HasWai
         seen = h.seen ∙ here;
         legal = h.legal;
         others = none_both before.number h.between w.between (ap (λ (n : ℕ). entries_of n h.between) (sym w.number) ∙ h.others) w.others;
+        seated = λ seat past. none_both seat h.between w.between (h.seated seat past) (w.seated seat past);
         many = omega arith;
         mine = h.mine ∙ ap (λ (x : Known). x.mine) k ∙ w.mine;
         begins = let a = h.begins in let b = w.begins in omega arith;
         exchanges = let a = h.exchanges in let b = w.exchanges in omega arith;
         tag_is = h.tag_is;
         last = h.last;
+        root = h.root;
+        root_is = h.root_is;
+        opened = h.opened;
         own = h.own ∙ w.own;
         number = h.number ∙ w.number;
       }

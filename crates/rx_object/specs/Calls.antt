@@ -6,10 +6,11 @@ use Rattle.rx_seq.specs.declared.replies.Reply.{Reply}
 use Rattle.rx_seq.specs.History.{tag_of as count_loud}
 use Rattle.rx_seq.specs.Legal.{IsLegal, entries_of}
 use Rattle.rx_shape.specs.Layout.{Layout}
+use Rattle.rx_shape.specs.Words.{tag_of}
 use Rattle.rx_port.specs.declared.views.Exchange.{Exchange}
 use Rattle.rx_port.specs.declared.views.Known.{Known}
 use Rattle.rx_port.specs.declared.views.View.{View}
-use Rattle.rx_port.specs.Core.{tag_after, entry_for}
+use Rattle.rx_port.specs.Core.{tag_after, entry_for, new_attempt}
 use Rattle.rx_object.specs.declared.calls.Try.{Try}
 use Rattle.rx_object.specs.declared.calls.Try.TheVariants.{Done, Lost, Spent}
 use Rattle.rx_object.specs.declared.calls.Outcome.{Outcome}
@@ -20,7 +21,7 @@ exchange object expected found = record { object = object; expected = expected; 
 
 module _ (layout : Layout) (before now : View) (object : ℕ) where
   -- the call was made after so many lost attempts. What the seat has seen is legal: it begins with what it had seen, goes
-  -- on with entries of others, at least one on the object for each lost attempt, and ends with the entry of this call
+  -- on with entries of other seats, at least one on the object for each lost attempt, and ends with the entry of this call
   pub record IsDone (call : Call) (reply : Reply) (tag lost : ℕ) : Type 0 where
     pub known : Known
     pub is : before.known ≡ Some known
@@ -32,6 +33,7 @@ module _ (layout : Layout) (before now : View) (object : ℕ) where
     pub tag_is : tag ≡ (entry_for layout (between ++ known.seen) before.number object call).tag
     pub legal : IsLegal layout.parts layout.first after.seen
     pub others : entries_of before.number between ≡ []
+    pub seated : (seat : ℕ) → layout.seats ≤ seat → entries_of seat between ≡ []
     pub many : lost ≤ count_loud object between
     pub mine : after.mine ≡ entry_for layout (between ++ known.seen) before.number object call ∷ known.mine
     pub all_mine : after.mine ≡ entries_of before.number after.seen
@@ -42,7 +44,8 @@ module _ (layout : Layout) (before now : View) (object : ℕ) where
     pub closed : now.attempt ≡ None
     pub number : now.number ≡ before.number
 
-  -- so many attempts were lost: the seat has seen at least one entry of others on the object for each, and made none
+  -- so many attempts were lost: the seat has seen at least one entry of other seats on the object for each, and
+  -- made none
   pub record HasWaited (lost : ℕ) : Type 0 where
     pub known : Known
     pub is : before.known ≡ Some known
@@ -51,6 +54,7 @@ module _ (layout : Layout) (before now : View) (object : ℕ) where
     pub between : List Entry
     pub seen : after.seen ≡ between ++ known.seen
     pub others : entries_of before.number between ≡ []
+    pub seated : (seat : ℕ) → layout.seats ≤ seat → entries_of seat between ≡ []
     pub many : lost ≤ count_loud object between
     pub few : lost < 2 ^ 40
     pub mine : after.mine ≡ known.mine
@@ -68,9 +72,9 @@ module _ (layout : Layout) (before now : View) (object : ℕ) where
     pub apart : found ≢ expected
     pub closed : now.attempt ≡ None
 
-  -- after so many lost attempts the root that was loaded has the last tag, and the seat has its own places and entries as
-  -- before
-  pub record IsSpent (tag lost : ℕ) : Type 0 where
+  -- after so many lost attempts the root that was loaded has the last tag. The seat has its own places and entries as
+  -- before; the attempt that loaded the root is still open, and has neither read nor written
+  pub record IsSpent (call : Call) (tag lost : ℕ) : Type 0 where
     pub known : Known
     pub is : before.known ≡ Some known
     pub after : Known
@@ -79,12 +83,16 @@ module _ (layout : Layout) (before now : View) (object : ℕ) where
     pub seen : after.seen ≡ between ++ known.seen
     pub legal : IsLegal layout.parts layout.first after.seen
     pub others : entries_of before.number between ≡ []
+    pub seated : (seat : ℕ) → layout.seats ≤ seat → entries_of seat between ≡ []
     pub many : lost ≤ count_loud object between
     pub mine : after.mine ≡ known.mine
     pub begins : after.begins ≡ known.begins + lost + 1
     pub exchanges : after.exchanges ≡ known.exchanges + lost
     pub tag_is : tag ≡ tag_after layout after.seen object
     pub last : tag + 1 ≡ 2 ^ 40
+    pub root : ℕ
+    pub root_is : tag ≡ tag_of root
+    pub opened : now.attempt ≡ Some (new_attempt object call root)
     pub own : now.own ≡ before.own
     pub number : now.number ≡ before.number
 
@@ -92,9 +100,9 @@ module _ (layout : Layout) (before now : View) (object : ℕ) where
   abbrev pub Tells : Call → Try → Type 0
   Tells call (Done reply tag) = IsDone call reply tag 0
   Tells call (Lost expected found) = IsLost expected found
-  Tells call (Spent tag) = IsSpent tag 0
+  Tells call (Spent tag) = IsSpent call tag 0
 
   -- what a whole call tells
   abbrev pub TellsAll : Call → Outcome → Type 0
   TellsAll call (AllDone reply tag retries) = IsDone call reply tag retries
-  TellsAll call (AllSpent tag) = (lost : ℕ) × IsSpent tag lost
+  TellsAll call (AllSpent tag) = (lost : ℕ) × IsSpent call tag lost

@@ -4,6 +4,7 @@ ghost use Rattle.rx_object.specs.Calls.{Tells, TellsAll};
 ghost use Rattle.rx_object.specs.declared.calls.Try.TheVariants.{Lost};
 ghost use Rattle.rx_seq.specs.History.{part_at};
 ghost use Rattle.rx_seq.specs.Table.{fits_part};
+ghost use Rattle.rx_shape.specs.Layout.{home};
 ghost use Rattle.rx_table.specs.Boards.{IsSeatOf};
 ghost use Rattle.std.specs.Prelude.{ℕ, ◌≡◌, ◌<◌, true, length};
 
@@ -19,7 +20,8 @@ pub enum Try {
     /// Another seat changed the object: the root that the attempt expected, and the one that its exchange found. The
     /// seat's own places and entries are as before, and it may try again.
     Lost { expected: u64, found: u64 },
-    /// The object has its last tag, so the call cannot be made. The seat's own places and entries are as before.
+    /// The object has its last tag, so the call cannot be made. The seat's own places and entries are as before, and its
+    /// next attempt takes the place of this one, which is still open.
     Spent { tag: u64 },
 }
 
@@ -32,14 +34,15 @@ pub enum Outcome {
         tag: u64,
         retries: u64,
     },
-    /// The object has its last tag, so the call cannot be made. The seat's own places and entries are as before.
+    /// The object has its last tag, so the call cannot be made. The seat's own places and entries are as before, and its
+    /// next attempt takes the place of the last one, which is still open.
     Spent {
         tag: u64,
     },
 }
 
 /// Makes the steps of one attempt of a machine that has made none. After a lost attempt the machine is as before.
-fn try_once(machine: &mut Machine, port: &mut SharedPort<'_>, seat: &mut Seat) -> Try
+pub(crate) fn try_once(machine: &mut Machine, port: &mut SharedPort<'_>, seat: &mut Seat) -> Try
     requires new { machine.old ≡ fresh machine.old.place machine.old.object machine.old.call }
     requires follows { Follows port.old.layout seat.old.view machine.old }
     requires ours { IsSeatOf port.old seat.old }
@@ -59,35 +62,25 @@ fn try_once(machine: &mut Machine, port: &mut SharedPort<'_>, seat: &mut Seat) -
     }
 }
 
-/// Makes one attempt of a call on an object that is there and that it fits. It makes one `begin` and at most one
-/// exchange, takes no memory and does not wait. It takes time that grows with the capacity of the object.
-pub fn attempt(shared: &Shared, seat: &mut Seat, object: u32, call: Call) -> Try
-    requires ours { IsSeatOf shared.now seat.old }
-    requires exists { object < length shared.now.layout.parts }
-    requires fits { fits_part (part_at shared.now.layout.parts object) call ≡ true }
-    ensures tells { Tells shared.now.layout seat.old.view seat.new.view object call result }
-    ensures ours { IsSeatOf shared.now seat.new }
-{
-    let mut machine = Machine::start(shared.layout(), object, call);
-    let mut port = shared.port();
-    try_once(&mut machine, &mut port, seat)
-}
-
-/// Makes attempts of a call on an object that is there and that it fits, until one makes it or the tags are spent. It
-/// returns: each lost attempt raises the tag that the seat has seen, and tags end. It takes no memory and does not wait.
-/// Each attempt takes time that grows with the capacity of the object.
-pub fn operate(shared: &Shared, seat: &mut Seat, object: u32, call: Call) -> Outcome
+/// Makes attempts of the call of a machine that has made no step, until one makes it or the tags are spent.
+pub(crate) fn make(
+    machine: &mut Machine,
+    shared: &Shared,
+    seat: &mut Seat,
+    object: u32,
+    call: Call,
+) -> Outcome
+    requires new { machine.old ≡ fresh (home shared.now.layout object) object call }
     requires ours { IsSeatOf shared.now seat.old }
     requires exists { object < length shared.now.layout.parts }
     requires fits { fits_part (part_at shared.now.layout.parts object) call ≡ true }
     ensures tells { TellsAll shared.now.layout seat.old.view seat.new.view object call result }
     ensures ours { IsSeatOf shared.now seat.new }
 {
-    let mut machine = Machine::start(shared.layout(), object, call);
     let mut port = shared.port();
     let mut retries = 0;
     loop {
-        match try_once(&mut machine, &mut port, seat) {
+        match try_once(machine, &mut port, seat) {
             Try::Done { reply, tag } => return Outcome::Done {
                 reply,
                 tag,
@@ -100,4 +93,34 @@ pub fn operate(shared: &Shared, seat: &mut Seat, object: u32, call: Call) -> Out
             Try::Spent { tag } => return Outcome::Spent { tag },
         }
     }
+}
+
+/// Makes one attempt of a call on an object that is there and that it fits. It makes one `begin` and at most one
+/// exchange, takes no memory and does not wait. It takes time that grows with the capacity of the object; how many other
+/// objects there are does not matter. It builds a machine of about 2,600 bytes; where calls follow one another, a `Runner`
+/// keeps one.
+pub fn attempt(shared: &Shared, seat: &mut Seat, object: u32, call: Call) -> Try
+    requires ours { IsSeatOf shared.now seat.old }
+    requires exists { object < length shared.now.layout.parts }
+    requires fits { fits_part (part_at shared.now.layout.parts object) call ≡ true }
+    ensures tells { Tells shared.now.layout seat.old.view seat.new.view object call result }
+    ensures ours { IsSeatOf shared.now seat.new }
+{
+    let mut machine = Machine::start(shared.layout(), object, call);
+    try_once(&mut machine, &mut shared.port(), seat)
+}
+
+/// Makes attempts of a call on an object that is there and that it fits, until one makes it or the tags are spent. It
+/// returns: each lost attempt raises the tag that the seat has seen, and tags end. It takes no memory and does not wait.
+/// Each attempt takes time that grows with the capacity of the object; how many other objects there are does not matter.
+/// It builds a machine of about 2,600 bytes; where calls follow one another, a `Runner` keeps one.
+pub fn operate(shared: &Shared, seat: &mut Seat, object: u32, call: Call) -> Outcome
+    requires ours { IsSeatOf shared.now seat.old }
+    requires exists { object < length shared.now.layout.parts }
+    requires fits { fits_part (part_at shared.now.layout.parts object) call ≡ true }
+    ensures tells { TellsAll shared.now.layout seat.old.view seat.new.view object call result }
+    ensures ours { IsSeatOf shared.now seat.new }
+{
+    let mut machine = Machine::start(shared.layout(), object, call);
+    make(&mut machine, shared, seat, object, call)
 }

@@ -2,7 +2,12 @@
 #![tactic(auto)]
 
 mod calls;
+pub mod laws;
+mod runners;
 #[cfg(test)]
 mod tests;
+#[cfg(test)]
+mod thread_tests;
 
 pub use calls::{Outcome, Try, attempt, operate};
+pub use runners::Runner;

@@ -45,7 +45,7 @@ pub struct Opened {
     pub seats: Vec<Seat>,
 }
 
-/// There was no memory to close a table. It and all its seats are as before.
+/// There was no memory to close a table. It and all its seats are as before, in the same order.
 #[derive(Drop)]
 pub struct Kept {
     pub shared: Shared,
@@ -92,9 +92,10 @@ impl Shared {
     }
 
     /// Closes the table with all its seats, in the order of their numbers. The history of the closed table begins with
-    /// all that each seat has seen, and its entries of each seat are that seat's own. `Kept` is the one refusal, where
-    /// there is no memory for a copy of the words; the table and the seats are then as before. It takes time that grows
-    /// with the number of words.
+    /// all that each seat has seen, and its entries of each seat are that seat's own. `Kept` is the one refusal: there is
+    /// no memory for a copy of the words, no seat was joined, and it gives back the table and the seats as they were, to
+    /// be used on or to be closed later. It takes time that grows with the number of words, and makes one load of word 0
+    /// for each seat that is joined, which are all but the first.
     pub fn close(self, alloc: Global, seats: Vec<Seat>) -> Result<Closed, Kept>
         requires { AreSeats self seats.items }
         ensures layout { IfOk result (λ closed. closed.layout ≡ self.layout) }
@@ -111,7 +112,7 @@ impl Shared {
         }
     }
 
-    /// Joins all seats into the first, and closes the table. There are as many words as the table has.
+    /// Joins the seats, the last one into the one before it and so on down to the first, and closes the table. There are as many words as the table has.
     fn end(self, seats: Vec<Seat>, words: Vec<u64>) -> Closed
         requires seats { AreSeats self seats.items }
         requires words { length words.items ≡ words_of self.layout }
@@ -136,6 +137,7 @@ fn all_seats(
     ensures many { IfOk result (λ seats. length seats.items ≡ layout.now.seats) }
     ensures fresh { IfOk result (λ seats. AreNew (record { layout = layout.now; table = words.now.table_id }) seats.items) }
 {
+    // That the layout is in its limits, so that there is a first seat.
     let _parts = layout.parts();
     let mut seats = Vec::new(alloc);
     match seats.push(first) {

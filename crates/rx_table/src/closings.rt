@@ -128,7 +128,8 @@ pub fn finish(
 }
 
 /// A table that is closed. Contracts see the layout, the last words, and the history of all calls that were completed,
-/// newest first, for which the words stand. The entries of each seat are those of its number.
+/// newest first, for which the words stand. The entries of each seat are those of its number. It may be handed to another
+/// thread, and is used by one thread at a time.
 #[derive(Drop)]
 pub struct Closed {
     layout: Layout,

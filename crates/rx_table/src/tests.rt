@@ -31,6 +31,24 @@ fn small_table(alloc: Global) -> Result<Opened, NoMemory>
     Shared::new(alloc, layout)
 }
 
+// Another thread closes the table, and hands it back.
+fn close_there<R: Threads + Sync>(
+    rt: &R,
+    alloc: Global,
+    shared: Shared,
+    seats: Vec<Seat>,
+) -> Result<Closed, Kept>
+    requires layout { shared.layout ≡ small }
+    requires seats { AreSeats shared seats.items }
+    ensures { IfOk result (λ closed. closed.layout ≡ small) }
+{
+    let close = || -> Result<Closed, Kept>
+        requires { (shared.layout ≡ small) × AreSeats shared seats.items }
+        ensures { IfOk result (λ closed. closed.layout ≡ small) }
+    { shared.close(alloc, seats) };
+    join(rt, close, || ()).0
+}
+
 #[test]
 fn opened_and_closed(rt: HostRuntime) -> Result<(), Fail> {
     let opened = match small_table(rt.alloc()) {
@@ -39,7 +57,7 @@ fn opened_and_closed(rt: HostRuntime) -> Result<(), Fail> {
     };
     assert_eq!(rt; opened.seats.len(), 2);
     let Opened { shared, seats } = opened;
-    let closed = match shared.close(rt.alloc(), seats) {
+    let closed = match close_there(&rt, rt.alloc(), shared, seats) {
         Ok(closed) => closed,
         Err(_) => return Err("no memory".into()),
     };

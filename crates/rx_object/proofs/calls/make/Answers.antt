@@ -3,7 +3,7 @@ use Rattle.rx_seq.specs.declared.calls.Call.{Call}
 use Rattle.rx_shape.specs.Layout.{Layout}
 use Rattle.rx_object.specs.Calls.{IsDone, IsLost, IsSpent}
 use Rattle.rx_object.proofs.Waiting.{waited_more, done_after, spent_after, rises}
-use Rattle.rx_object.proofs.calls.operate.Goals as goal
+use Rattle.rx_object.proofs.calls.make.Goals as goal
 
 pub returns-in-Done-clause-tells : goal.returns-in-Done-clause-tells
 returns-in-Done-clause-tells c =
@@ -33,7 +33,7 @@ loop-reply-preserved c =
 pub returns-in-Spent-clause-tells : goal.returns-in-Spent-clause-tells
 returns-in-Spent-clause-tells c =
     let h = c.loop-reply.invariant in
-    let spent = subst (λ (x : Layout × ℕ). IsSpent x.0 c.loop-reply.seat.view c.try_once.new.seat.view x.1 c.in-Spent.tag 0) (λ k. ((h.port k).layout, (h.machine k).object)) c.in-Spent.ensures.tells in (
+    let spent = subst (λ (x : Layout × ℕ × Call). IsSpent x.0 c.loop-reply.seat.view c.try_once.new.seat.view x.1 x.2 c.in-Spent.tag 0) (λ k. ((h.port k).layout, (h.machine k).object, (h.machine k).call)) c.in-Spent.ensures.tells in (
       c.loop-reply.retries,
-      spent_after c.args.shared.now.layout c.args.seat.now.view c.loop-reply.seat.view c.try_once.new.seat.view c.args.object c.loop-reply.retries h.waited c.in-Spent.tag spent,
+      spent_after c.args.shared.now.layout c.args.seat.now.view c.loop-reply.seat.view c.try_once.new.seat.view c.args.object c.loop-reply.retries h.waited c.args.call c.in-Spent.tag spent,
     )

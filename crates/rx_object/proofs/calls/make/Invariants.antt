@@ -5,7 +5,7 @@ use Rattle.rx_machine.specs.Operations.{fresh}
 use Rattle.rx_table.specs.Boards.{IsSeatOf}
 use Rattle.rx_table.specs.Seats.{seen_of}
 use Rattle.rx_object.specs.Calls.{HasWaited}
-use Rattle.rx_object.proofs.calls.operate.Given as goal
+use Rattle.rx_object.proofs.calls.make.Given as goal
 
 abbrev pub invariant-loop-reply : goal.invariant-loop-reply
 invariant-loop-reply l = record {
