@@ -1,0 +1,29 @@
+-- What a thread did with its seat.
+use Rattle.std.specs.Prelude.{ℕ, ◌≡◌, ◌+◌, ◌≤◌, List, [], ◌∷◌, ◌++◌, length, Some}
+use Rattle.std.specs.List.{All}
+use Rattle.rx_seq.specs.declared.kinds.Kind.{Kind}
+use Rattle.rx_seq.specs.declared.entries.Entry.{Entry}
+use Rattle.rx_port.specs.declared.views.Known.{Known}
+use Rattle.rx_port.specs.declared.views.View.{View}
+use Rattle.rx_table.specs.Boards.{Board, IsSeatOf}
+use Rattle.rx_bench.specs.declared.lanes.Lane.{Lane}
+use Rattle.rx_bench.specs.Scripts.{part_for}
+
+-- each lane has a seat of the table
+abbrev pub AreLanes : Board → List Lane → Type 0
+AreLanes board lanes = All (λ lane. IsSeatOf board lane.seat) lanes
+
+-- the table has one object, of this kind
+abbrev pub HasOne : Board → Kind → Type 0
+HasOne board kind = board.layout.parts ≡ part_for kind ∷ []
+
+-- the seat has so many entries more, and made an exchange for each of them and for each lost attempt
+pub record HasMade (before now : View) (made retries : ℕ) : Type 0 where
+  pub known : Known
+  pub is : before.known ≡ Some known
+  pub after : Known
+  pub after_is : now.known ≡ Some after
+  pub entries : List Entry
+  pub mine : after.mine ≡ entries ++ known.mine
+  pub many : length entries ≡ made
+  pub exchanges : known.exchanges + made + retries ≤ after.exchanges

@@ -1,0 +1,8 @@
+-- An object under a lock.
+use Rattle.std.specs.Prelude.{ℕ, List}
+use Rattle.rx_seq.specs.declared.kinds.Part.{Part}
+
+-- its part and its state
+pub record Held : Type 0 where
+  pub part : Part
+  pub state : List ℕ
