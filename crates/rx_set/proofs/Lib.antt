@@ -6,3 +6,5 @@ pub mod Keys
 pub mod Orders
 pub mod Readings
 pub mod Kept
+pub mod Draws
+pub mod ValidSets

@@ -4,4 +4,5 @@ pub mod Valid
 pub mod View
 pub mod Orders
 pub mod Ranked
+pub mod Generator
 pub mod Rows

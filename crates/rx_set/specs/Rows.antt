@@ -1,13 +1,17 @@
--- Worked rows of names, ranks, times, keys, costs and demands.
+-- Worked rows of names, ranks, times, keys, costs, demands and drawn sets.
 use Rattle.std.specs.Prelude.{ℕ, ◌≡◌, true, false, refl, List, [], ◌∷◌, codes, Some}
 use Rattle.rx_seq.specs.declared.kinds.Kind.TheVariants.{Cell, Queue, Registers, List as Ordered}
-use Rattle.rx_seq.specs.declared.calls.Call.TheVariants.{Get, Add, Put, Take}
+use Rattle.rx_seq.specs.declared.calls.Call.TheVariants.{Get, Add, Put, Take, Insert, Remove, Multi}
+use Rattle.rx_seq.specs.declared.calls.Row.{Row}
+use Rattle.rand_core.specs.Stream.{fill_bytes}
+use Rattle.rand_core.specs.Steps.{stream_of, word_bytes, u32_at}
 use Rattle.rx_set.specs.declared.policies.Policy.{Policy}
 use Rattle.rx_set.specs.declared.policies.Policy.TheVariants.{Rm, Dm, Edf}
 use Rattle.rx_set.specs.declared.items.Item.{Item}
 use Rattle.rx_set.specs.declared.items.Item.TheVariants.{Work, Op}
 use Rattle.rx_set.specs.declared.jobs.Job.{Job}
 use Rattle.rx_set.specs.declared.jobs.Key.{Key}
+use Rattle.rx_set.specs.Generator.{draw, four_objects, item_drawn, task_drawn, set_drawn, seeded, generated}
 use Rattle.rx_set.specs.Names.{is_name, has_repeat}
 use Rattle.rx_set.specs.System.{System, TaskRow, rank, release, due, key, is_below, ticks_of, item_at, attempt_by, attempt_cost, cost, retry_cost}
 
@@ -169,3 +173,35 @@ pair policy = record {
       ∷ record { name = codes "urgent"; period = 20; deadline = 4; offset = 0; items = Op 0 (Add 1) ∷ Work 1 ∷ Op 1 Take ∷ [] } ∷ [];
   demands = record { task = 1; job = 2; item = 2; ticks = 4 } ∷ [];
 }
+
+-- two drawn sets, with the numbers of another implementation of the generator
+abbrev change : ℕ → ℕ → ℕ → Row
+change register expected written = record { i = register; old = expected; new = written }
+
+abbrev drawn_task : List ℕ → ℕ → ℕ → List Item → TaskRow
+drawn_task text period offset items = record { name = text; period = period; deadline = period; offset = offset; items = items }
+
+abbrev drawn_set : Policy → List TaskRow → System
+drawn_set policy tasks = record { policy = policy; objects = four_objects; tasks = tasks; demands = [] }
+
+pub drawn_from_zero : generated 0
+    ≡ drawn_set Edf (
+    drawn_task (codes "t1") 620 30 (Op 0 (Add 6) ∷ Work 3 ∷ Op 2 (Remove 8) ∷ [])
+    ∷ drawn_task (codes "t2") 620 9 (Op 0 (Add 3) ∷ [])
+    ∷ drawn_task (codes "t3") 220 87 (Work 3 ∷ [])
+    ∷ drawn_task (codes "t4") 860 51 (Op 3 (Multi 1 (change 1 1 1 ∷ change 0 0 0 ∷ change 0 0 0 ∷ change 0 0 0 ∷ [])) ∷ Work 3 ∷ Op 1 Take ∷ Work 3 ∷ []) ∷ []
+    )
+unfolding generated set_drawn seeded task_drawn item_drawn draw fill_bytes stream_of word_bytes u32_at
+drawn_from_zero = refl
+
+pub drawn_from_greatest : generated 18446744073709551615
+    ≡ drawn_set Rm (
+    drawn_task (codes "t1") 720 87 (Op 1 Take ∷ Work 1 ∷ [])
+    ∷ drawn_task (codes "t2") 160 31 (Op 1 Take ∷ Work 2 ∷ Op 2 (Insert 5) ∷ Op 1 (Put 32) ∷ [])
+    ∷ drawn_task (codes "t3") 240 1 (Op 2 (Insert 15) ∷ [])
+    ∷ drawn_task (codes "t4") 160 90 (Op 2 (Remove 8) ∷ [])
+    ∷ drawn_task (codes "t5") 680 10 (Op 0 (Add 4) ∷ Op 2 (Remove 14) ∷ [])
+    ∷ drawn_task (codes "t6") 100 6 (Op 1 (Put 53) ∷ Work 3 ∷ []) ∷ []
+    )
+unfolding generated set_drawn seeded task_drawn item_drawn draw fill_bytes stream_of word_bytes u32_at
+drawn_from_greatest = refl

@@ -29,14 +29,14 @@ impl Model for Body {
 }
 
 impl Body {
-    /// The body of these items. It takes no memory.
+    /// The body of these items. It takes no memory, and constant time.
     pub fn of(items: Vec<Item>) -> Body
         ensures { result ≡ items.items }
     {
         Body { items }
     }
 
-    /// Its items, in order.
+    /// Its items, in order. Its cost is constant.
     pub fn items(&self) -> &[Item]
         ensures { result.now ≡ self.now }
     {

@@ -1,10 +1,11 @@
-//! Laws of ranks, times and keys. Each function does nothing: its contract is the law. It holds of every system, or
-//! where it says so of every valid one.
+//! Laws of ranks, times and keys, and of the sets that are drawn from numbers. Each function does nothing: its contract
+//! is the law. It holds of every system, or where it says so of every valid or drawn one.
 ghost use Rattle.rx_set.specs.declared.jobs.Job.{Job};
 ghost use Rattle.rx_set.specs.declared.jobs.Key.{Key};
+ghost use Rattle.rx_set.specs.Generator.{generated};
 ghost use Rattle.rx_set.specs.System.{System, key, is_ahead, is_below, rank, release, task_at};
-ghost use Rattle.rx_set.specs.Valid.{IsValid};
-ghost use Rattle.std.specs.Prelude.{ℕ, ◌≡◌, ◌≢◌, ◌≤◌, ◌<◌, ◌+◌, ◌↔◌, ◌⊎◌, length, true, false};
+ghost use Rattle.rx_set.specs.Valid.{IsValid, KeepsCosts};
+ghost use Rattle.std.specs.Prelude.{ℕ, ◌≡◌, ◌≢◌, ◌≤◌, ◌<◌, ◌+◌, ◌*◌, ◌↔◌, ◌⊎◌, length, true, false};
 
 /// Ranks are the places of the tasks in their order: different tasks have different ranks, these are the numbers from
 /// 1 to the number of tasks, and a task has a lower rank exactly if it comes before the other.
@@ -32,4 +33,14 @@ pub fn keys_of_jobs()
 pub fn releases_are_periodic()
     ensures spaced { (system : System) (task k m : ℕ) → 1 ≤ k → k < m → release system (record { task = task; number = k }) + (task_at system task).period ≤ release system (record { task = task; number = m }) }
     ensures few { (system : System) (job : Job) (time : ℕ) → IsValid system → job.task < length system.tasks → release system job ≤ time → job.number ≤ time + 1 }
+{}
+
+/// Each set that is drawn from a number is valid, has at most 8 tasks, and keeps its stated costs. Each of its deadlines
+/// is the period, which is a multiple of 20 and at most 1,000.
+pub fn drawn_sets_are_valid()
+    ensures valid { (number : ℕ) → IsValid (generated number) }
+    ensures few { (number : ℕ) → length (generated number).tasks ≤ 8 }
+    ensures costs { (number : ℕ) → KeepsCosts (generated number) }
+    ensures deadlines { (number task : ℕ) → task < length (generated number).tasks → (task_at (generated number) task).deadline ≡ (task_at (generated number) task).period }
+    ensures periods { (number task : ℕ) → task < length (generated number).tasks → (n : ℕ) × (1 ≤ n) × (n ≤ 50) × ((task_at (generated number) task).period ≡ 20 * n) }
 {}

@@ -3,6 +3,7 @@
 #![tactic(auto)]
 
 mod demands;
+mod generator;
 mod items;
 mod jobs;
 pub mod laws;
@@ -14,6 +15,7 @@ mod tasks;
 mod tests;
 
 pub use demands::Demand;
+pub use generator::generate;
 pub use items::{Body, Item};
 pub use jobs::{Job, Key};
 pub use objects::Object;

@@ -1,9 +1,9 @@
-// One set, under each policy.
+// One set, under each policy, and sets that are drawn from numbers.
 ghost use Rattle.rx_set.specs.Rows.{pair};
 ghost use Rattle.std.specs.Prelude.{◌≡◌, IfOk};
 
 use super::*;
-use rx_seq::{Call, Kind, Part};
+use rx_seq::{Call, Kind, Part, Row};
 use std::alloc::Global;
 use std::test::Fail;
 
@@ -93,5 +93,143 @@ fn each_policy(rt: HostRuntime) -> Result<(), Fail> {
         assert_eq!(rt; set.ticks(Job { task: 1, number: 3 }, 2), 1);
         assert_eq!(rt; set.kept(), false);
     }
+    Ok(())
+}
+
+/// Whether a task of the set has this name, period, offset and items, and its period as its deadline.
+fn has_task(
+    set: &TaskSet,
+    place: usize,
+    name: &str,
+    period: u64,
+    offset: u64,
+    items: &[Item],
+) -> bool {
+    match set.tasks().get(place) {
+        None => false,
+        Some(task) => {
+            task.name.as_str() == name
+                && task.period == period
+                && task.deadline == period
+                && task.offset == offset
+                && task.body.items() == items
+        }
+    }
+}
+
+fn work(n: u64) -> Item {
+    Item::Work { n }
+}
+
+fn add(v: u32) -> Item {
+    Item::Op {
+        object: 0,
+        call: Call::Add { v },
+    }
+}
+
+fn put(v: u32) -> Item {
+    Item::Op {
+        object: 1,
+        call: Call::Put { v },
+    }
+}
+
+fn take() -> Item {
+    Item::Op {
+        object: 1,
+        call: Call::Take,
+    }
+}
+
+fn insert(k: u32) -> Item {
+    Item::Op {
+        object: 2,
+        call: Call::Insert { k },
+    }
+}
+
+fn remove(k: u32) -> Item {
+    Item::Op {
+        object: 2,
+        call: Call::Remove { k },
+    }
+}
+
+fn multi(i: u32, old: u32, new: u32) -> Item {
+    let none = Row::default();
+    Item::Op {
+        object: 3,
+        call: Call::Multi {
+            count: 1,
+            rows: [Row { i, old, new }, none, none, none],
+        },
+    }
+}
+
+// The expected values of the drawn sets come from another implementation of the generator.
+
+#[test]
+fn drawn_from_the_least(rt: HostRuntime) -> Result<(), Fail> {
+    let set = generate(rt.alloc(), 0)?;
+    assert_eq!(rt; set.policy(), Policy::Edf);
+    assert_eq!(rt; set.tasks().len(), 4);
+    assert!(rt; has_task(&set, 0, "t1", 620, 30, &[add(6), work(3), remove(8)]));
+    assert!(rt; has_task(&set, 1, "t2", 620, 9, &[add(3)]));
+    assert!(rt; has_task(&set, 2, "t3", 220, 87, &[work(3)]));
+    assert!(rt;
+        has_task(
+            &set,
+            3,
+            "t4",
+            860,
+            51,
+            &[multi(1, 1, 1), work(3), take(), work(3)]
+        )
+    );
+    Ok(())
+}
+
+#[test]
+fn drawn_from_one(rt: HostRuntime) -> Result<(), Fail> {
+    let set = generate(rt.alloc(), 1)?;
+    assert_eq!(rt; set.policy(), Policy::Edf);
+    assert_eq!(rt; set.tasks().len(), 4);
+    assert!(rt; has_task(&set, 0, "t1", 900, 70, &[insert(7)]));
+    assert!(rt; has_task(&set, 1, "t2", 920, 20, &[work(3), remove(9), add(8)]));
+    assert!(rt; has_task(&set, 2, "t3", 620, 19, &[add(1), add(3), take()]));
+    assert!(rt;
+        has_task(
+            &set,
+            3,
+            "t4",
+            560,
+            80,
+            &[add(7), remove(15), multi(2, 1, 0)]
+        )
+    );
+    Ok(())
+}
+
+#[test]
+fn drawn_from_the_greatest(rt: HostRuntime) -> Result<(), Fail> {
+    let set = generate(rt.alloc(), u64::MAX)?;
+    assert_eq!(rt; set.policy(), Policy::Rm);
+    assert_eq!(rt; set.tasks().len(), 6);
+    assert!(rt; has_task(&set, 0, "t1", 720, 87, &[take(), work(1)]));
+    assert!(rt;
+        has_task(
+            &set,
+            1,
+            "t2",
+            160,
+            31,
+            &[take(), work(2), insert(5), put(32)]
+        )
+    );
+    assert!(rt; has_task(&set, 2, "t3", 240, 1, &[insert(15)]));
+    assert!(rt; has_task(&set, 3, "t4", 160, 90, &[remove(8)]));
+    assert!(rt; has_task(&set, 4, "t5", 680, 10, &[add(4), remove(14)]));
+    assert!(rt; has_task(&set, 5, "t6", 100, 6, &[put(53), work(3)]));
     Ok(())
 }
