@@ -2,4 +2,4 @@ pub mod Words
 pub mod Read
 pub mod Valid
 pub mod Numbers
-pub mod Names
+pub mod Found

@@ -1,6 +1,6 @@
 -- The keys of a table, and what stands there.
 use Rattle.std.specs.Prelude.{ℕ, ℤ, pos, negsuc, ◌&&◌, nat_le, Bool, true, if◌then◌else◌, List, codes, Option, Some, None, is_none, Result, Ok, Err, ok_or, ⊤}
-use Rattle.std.specs.List.{list_any}
+use Rattle.std.specs.List.{list_any, position}
 use Rattle.std.specs.Str.{bytes_eq}
 use Rattle.toml.specs.Data.{Data, Members, no_members, member, get_member, as_str, as_integer}
 use Rattle.rx_set.specs.Names.{is_name}
@@ -59,6 +59,10 @@ name_at place row = do
 -- an earlier row has the name
 abbrev pub is_taken : List (List ℕ) → List ℕ → Bool
 is_taken earlier name = list_any (λ other. bytes_eq other name) earlier
+
+-- the place of a name among these, from 0
+abbrev pub place_of : List (List ℕ) → List ℕ → Option ℕ
+place_of names name = position (λ other. bytes_eq other name) names
 
 unfoldable pub is_new : Place → List (List ℕ) → List ℕ → Result ⊤ FileFault
 is_new place earlier name = if is_taken earlier name then Err (repeat place) else Ok tt

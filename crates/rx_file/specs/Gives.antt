@@ -1,12 +1,15 @@
 -- What a reading gives: what its definition says, unless there was no memory.
-use Rattle.std.specs.Prelude.{ℕ, ◌≡◌, ◌≢◌, ◌≤◌, List, [], map, false, None, Result, Ok, Err}
+use Rattle.std.specs.Prelude.{ℕ, ◌≡◌, ◌≢◌, ◌≤◌, List, [], length, get_or, map, false, None, Result, Ok, Err}
 use Rattle.std.specs.List.{All}
 use Rattle.rx_set.specs.declared.policies.Policy.TheVariants.{Rm}
+use Rattle.rx_set.specs.declared.demands.Demand.{Demand}
 use Rattle.rx_set.specs.Names.{has_repeat}
-use Rattle.rx_set.specs.System.{ObjectRow, TaskRow, System}
-use Rattle.rx_set.specs.Valid.{IsObjectRow, IsTaskRow, object_name, task_name}
+use Rattle.rx_set.specs.System.{ObjectRow, TaskRow, System, no_task}
+use Rattle.rx_set.specs.Valid.{IsObjectRow, IsTaskRow, IsDemandRow, NamesOnce, object_name, task_name}
 use Rattle.rx_file.specs.declared.faults.FileFault.{FileFault}
 use Rattle.rx_file.specs.declared.faults.FileFault.TheVariants.{NoMemory}
+use Rattle.rx_file.specs.declared.objects.ReadObject.{ReadObject}
+use Rattle.rx_file.specs.declared.tasks.ReadTask.{ReadTask}
 use Rattle.rx_file.specs.declared.shapes.Verb.{Verb}
 use Rattle.rx_file.specs.declared.shapes.Shape.{Shape as Spelled}
 use Rattle.rx_file.specs.declared.shapes.Shape.TheVariants as spelled
@@ -31,6 +34,13 @@ Shows view expected (Err fault) = expected ≡ Err fault
 abbrev pub Gives : {X Y : Type 0} → (X → Y) → Result Y FileFault → Result X FileFault → Type 0
 Gives view expected (Ok x) = expected ≡ Ok (view x)
 Gives view expected (Err fault) = fault ≢ NoMemory → expected ≡ Err fault
+
+-- what is shown of an object and of a task whose names lie in the document
+abbrev pub read_object : ReadObject → ObjectRow
+read_object object = record { name = object.name.now; part = object.part }
+
+abbrev pub read_task : ReadTask → TaskRow
+read_task task = record { name = task.name.now; period = task.period; deadline = task.deadline; offset = task.offset; items = task.items.items }
 
 -- what a shape in memory spells
 abbrev pub shape_view : Spelled → Shape
@@ -60,3 +70,16 @@ AreObjects rows = AreRows IsObjectRow object_name rows
 
 abbrev pub AreTasks : List ObjectRow → List TaskRow → Type 0
 AreTasks objects rows = AreRows (IsTaskRow (alone objects)) task_name rows
+
+-- the system of some tasks alone, among which demand rows are judged
+abbrev pub tasks_alone : List TaskRow → System
+tasks_alone tasks = record { policy = Rm; objects = []; tasks = tasks; demands = [] }
+
+-- no body has more than 64 items
+abbrev pub HaveBodies : List TaskRow → Type 0
+HaveBodies tasks = (task : ℕ) → length (get_or tasks task no_task).items ≤ 64
+
+-- all demand rows are good, and no two name one item of one job
+pub record AreDemands (tasks : List TaskRow) (rows : List Demand) : Type 0 where
+  pub good : All (IsDemandRow (tasks_alone tasks)) rows
+  pub once : NamesOnce rows

@@ -1,7 +1,5 @@
 -- The items of a task, among some objects.
 use Rattle.std.specs.Prelude.{ℕ, ◌+◌, if◌then◌else◌, List, length, map, Option, Result, Ok, Err, ok_or}
-use Rattle.std.specs.List.{position}
-use Rattle.std.specs.Str.{bytes_eq}
 use Rattle.toml.specs.Data.{Data, Items, as_str}
 use Rattle.rx_seq.specs.declared.calls.Call.{Call}
 use Rattle.rx_seq.specs.Table.{fits_part}
@@ -13,13 +11,14 @@ use Rattle.rx_set.specs.Valid.{object_name}
 use Rattle.rx_file.specs.declared.faults.FileFault.{FileFault}
 use Rattle.rx_file.specs.declared.faults.FileFault.TheVariants as fault
 use Rattle.rx_file.specs.Steps.{◌>>=◌}
+use Rattle.rx_file.specs.Fields.{place_of}
 use Rattle.rx_file.specs.Texts.{words_of}
 use Rattle.rx_file.specs.Shapes.{Shape, Work, On, shape_of}
 use Rattle.rx_file.specs.Arrays.{all_of}
 
 -- the number of the object of a name, from 0
 abbrev pub object_of : List ObjectRow → List ℕ → Option ℕ
-object_of objects name = position (λ other. bytes_eq other name) (map object_name objects)
+object_of objects name = place_of (map object_name objects) name
 
 -- a call on an object of this number, which it must fit
 abbrev pub fitting : List ObjectRow → ℕ → ℕ → ℕ → Call → Result Item FileFault

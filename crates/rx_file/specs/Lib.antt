@@ -5,7 +5,9 @@ pub mod Fields
 pub mod Arrays
 pub mod Objects
 pub mod Items
+pub mod Demands
 pub mod SetOf
+pub mod Index
 pub mod Gives
 pub mod OnLiterals
 pub mod Rows

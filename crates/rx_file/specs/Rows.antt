@@ -1,6 +1,6 @@
 -- Worked files, items and numbers.
 use Rattle.std.specs.Prelude.{ℕ, ◌≡◌, [], ◌∷◌, codes, Some, None, Ok, Err, refl}
-use Rattle.rx_set.specs.declared.policies.Policy.TheVariants.{Rm}
+use Rattle.rx_set.specs.declared.policies.Policy.TheVariants.{Rm, Dm, Edf}
 use Rattle.rx_seq.specs.declared.kinds.Kind.TheVariants.{Cell, Queue, Registers, List as Ordered}
 use Rattle.rx_seq.specs.declared.calls.Row.{Row}
 use Rattle.rx_seq.specs.declared.calls.Call.TheVariants.{Get, Set, Add, Swap, Put, Take, Insert, Remove, Has, Read, Shift, Multi}
@@ -13,9 +13,9 @@ use Rattle.rx_file.specs.Shapes.{shape_of, Work as WorkShape, On}
 use Rattle.rx_file.specs.SetOf.{set_of}
 use Rattle.rx_file.specs.OnLiterals.{file_on_literals}
 
--- a row of a transaction
-abbrev pub row : ℕ → ℕ → ℕ → Row
-row i old new = record { i = i; old = old; new = new }
+-- what a transaction does with one register
+abbrev pub change : ℕ → ℕ → ℕ → Row
+change i old new = record { i = i; old = old; new = new }
 
 -- two tasks
 pub two_tasks : set_of (codes "task = [{name=\"a\", period=4, offset=1, body=[\"work 1\"]}, {name=\"b\", period=8, body=[\"work 3\"]}]") ≡ Ok (record {
@@ -48,13 +48,9 @@ unfolding file_on_literals
 no_array = refl
 
 -- another key at the top
-pub other_key : set_of (codes "policy = \"rm\"\ntask = [{}]") ≡ Err (Field section.Top 0 label.Other)
+pub other_key : set_of (codes "tasks = []\ntask = [{}]") ≡ Err (Field section.Top 0 label.Other)
 unfolding file_on_literals
 other_key = refl
-
-pub demand_key : set_of (codes "demand = []\ntask = [{}]") ≡ Err (Field section.Top 0 label.Other)
-unfolding file_on_literals
-demand_key = refl
 
 -- 33 tasks, whatever they are
 pub many_tasks : set_of (codes "task = [0,0,0,0,0,0,0,0,0,0,0,0,0,0,0,0,0,0,0,0,0,0,0,0,0,0,0,0,0,0,0,0,0]") ≡ Err (TooMany section.Task 33)
@@ -242,6 +238,143 @@ pub register_twice : set_of (codes "object = [{name=\"r\", kind=\"registers\", c
 unfolding file_on_literals
 register_twice = refl
 
+-- the policy `rm`
+pub rm_policy : set_of (codes "policy = \"rm\"\ntask = [{name=\"a\", period=4, body=[\"work 1\"]}]") ≡ Ok (record {
+  policy = Rm;
+  objects = [];
+  tasks = record { name = codes "a"; period = 4; deadline = 4; offset = 0; items = Work 1 ∷ [] } ∷ [];
+  demands = [];
+})
+unfolding file_on_literals
+rm_policy = refl
+
+-- the policy `dm`
+pub dm_policy : set_of (codes "policy = \"dm\"\ntask = [{name=\"a\", period=4, body=[\"work 1\"]}]") ≡ Ok (record {
+  policy = Dm;
+  objects = [];
+  tasks = record { name = codes "a"; period = 4; deadline = 4; offset = 0; items = Work 1 ∷ [] } ∷ [];
+  demands = [];
+})
+unfolding file_on_literals
+dm_policy = refl
+
+-- the policy `edf`
+pub edf_policy : set_of (codes "policy = \"edf\"\ntask = [{name=\"a\", period=4, body=[\"work 1\"]}]") ≡ Ok (record {
+  policy = Edf;
+  objects = [];
+  tasks = record { name = codes "a"; period = 4; deadline = 4; offset = 0; items = Work 1 ∷ [] } ∷ [];
+  demands = [];
+})
+unfolding file_on_literals
+edf_policy = refl
+
+-- a policy that is no word, which comes before the array of objects
+pub number_policy : set_of (codes "policy = 1\nobject = 1") ≡ Err (Field section.Top 0 label.Policy)
+unfolding file_on_literals
+number_policy = refl
+
+-- a word that is no policy
+pub other_policy : set_of (codes "policy = \"RM\"\nobject = 1") ≡ Err (Range section.Top 0 label.Policy)
+unfolding file_on_literals
+other_policy = refl
+
+-- a table in place of an array of demand rows, which comes after the tasks and before other keys
+pub no_demand_array : set_of (codes "demand = {}\ntask = [0]\nx = 0") ≡ Err (Field section.Top 0 label.Demand)
+unfolding file_on_literals
+no_demand_array = refl
+
+pub task_before_demand : set_of (codes "demand = 0\ntask = 0") ≡ Err (Field section.Top 0 label.Task)
+unfolding file_on_literals
+task_before_demand = refl
+
+-- demand rows of two jobs
+pub two_jobs : set_of (codes "task = [{name=\"a\", period=4, body=[\"work 1\"]}]\ndemand = [{task=\"a\", job=1, item=1, ticks=2}, {ticks=1000000, item=1, job=1000000, task=\"a\"}]") ≡ Ok (record {
+  policy = Rm;
+  objects = [];
+  tasks = record { name = codes "a"; period = 4; deadline = 4; offset = 0; items = Work 1 ∷ [] } ∷ [];
+  demands = record { task = 0; job = 1; item = 1; ticks = 2 } ∷ record { task = 0; job = 1000000; item = 1; ticks = 1000000 } ∷ [];
+})
+unfolding file_on_literals
+two_jobs = refl
+
+-- a demand row is looked at after the rows of tasks
+pub task_row_first : set_of (codes "demand = [0]\ntask = [0]") ≡ Err (Field section.Task 1 label.Whole)
+unfolding file_on_literals
+task_row_first = refl
+
+-- a demand row that is no table
+pub whole_demand : set_of (codes "task = [{name=\"a\", period=4, body=[\"work 1\"]}]\ndemand = [0]") ≡ Err (Field section.Demand 1 label.Whole)
+unfolding file_on_literals
+whole_demand = refl
+
+-- a demand row must name a task
+pub no_demand_task : set_of (codes "task = [{name=\"a\", period=4, body=[\"work 1\"]}]\ndemand = [{job=0}]") ≡ Err (Field section.Demand 1 label.Task)
+unfolding file_on_literals
+no_demand_task = refl
+
+pub number_task : set_of (codes "task = [{name=\"a\", period=4, body=[\"work 1\"]}]\ndemand = [{task=1}]") ≡ Err (Field section.Demand 1 label.Task)
+unfolding file_on_literals
+number_task = refl
+
+-- a task that is not there, which comes before the job
+pub unknown_task : set_of (codes "task = [{name=\"a\", period=4, body=[\"work 1\"]}]\ndemand = [{task=\"b\", job=0}]") ≡ Err (Range section.Demand 1 label.Task)
+unfolding file_on_literals
+unknown_task = refl
+
+-- the job is a number from 1 to 1,000,000
+pub no_job : set_of (codes "task = [{name=\"a\", period=4, body=[\"work 1\"]}]\ndemand = [{task=\"a\", item=0}]") ≡ Err (Field section.Demand 1 label.Job)
+unfolding file_on_literals
+no_job = refl
+
+pub zero_job : set_of (codes "task = [{name=\"a\", period=4, body=[\"work 1\"]}]\ndemand = [{task=\"a\", job=0, item=0}]") ≡ Err (Range section.Demand 1 label.Job)
+unfolding file_on_literals
+zero_job = refl
+
+pub far_job : set_of (codes "task = [{name=\"a\", period=4, body=[\"work 1\"]}]\ndemand = [{task=\"a\", job=1000001, item=0}]") ≡ Err (Range section.Demand 1 label.Job)
+unfolding file_on_literals
+far_job = refl
+
+-- the item is the number of a work item in the body
+pub no_item : set_of (codes "task = [{name=\"a\", period=4, body=[\"work 1\"]}]\ndemand = [{task=\"a\", job=1, ticks=0}]") ≡ Err (Field section.Demand 1 label.Item)
+unfolding file_on_literals
+no_item = refl
+
+pub zero_item : set_of (codes "task = [{name=\"a\", period=4, body=[\"work 1\"]}]\ndemand = [{task=\"a\", job=1, item=0, ticks=0}]") ≡ Err (Range section.Demand 1 label.Item)
+unfolding file_on_literals
+zero_item = refl
+
+pub far_item : set_of (codes "task = [{name=\"a\", period=4, body=[\"work 1\"]}]\ndemand = [{task=\"a\", job=1, item=2, ticks=0}]") ≡ Err (Range section.Demand 1 label.Item)
+unfolding file_on_literals
+far_item = refl
+
+-- a call is no work
+pub operation_item : set_of (codes "object = [{name=\"c\", kind=\"cell\"}]\ntask = [{name=\"a\", period=4, body=[\"work 1\", \"get c\"]}]\ndemand = [{task=\"a\", job=1, item=1, ticks=1}, {task=\"a\", job=1, item=2, ticks=1}]") ≡ Err (Range section.Demand 2 label.Item)
+unfolding file_on_literals
+operation_item = refl
+
+-- the ticks are a number from 1 to 1,000,000
+pub no_ticks : set_of (codes "task = [{name=\"a\", period=4, body=[\"work 1\"]}]\ndemand = [{task=\"a\", job=1, item=1, x=0}]") ≡ Err (Field section.Demand 1 label.Ticks)
+unfolding file_on_literals
+no_ticks = refl
+
+pub zero_ticks : set_of (codes "task = [{name=\"a\", period=4, body=[\"work 1\"]}]\ndemand = [{task=\"a\", job=1, item=1, ticks=0, x=0}]") ≡ Err (Range section.Demand 1 label.Ticks)
+unfolding file_on_literals
+zero_ticks = refl
+
+pub long_ticks : set_of (codes "task = [{name=\"a\", period=4, body=[\"work 1\"]}]\ndemand = [{task=\"a\", job=1, item=1, ticks=1000001, x=0}]") ≡ Err (Range section.Demand 1 label.Ticks)
+unfolding file_on_literals
+long_ticks = refl
+
+-- another key of a demand row
+pub other_demand_key : set_of (codes "task = [{name=\"a\", period=4, body=[\"work 1\"]}]\ndemand = [{task=\"a\", job=1, item=1, ticks=1, x=0}]") ≡ Err (Field section.Demand 1 label.Other)
+unfolding file_on_literals
+other_demand_key = refl
+
+-- an item of a job that an earlier row names, whatever its ticks
+pub demand_twice : set_of (codes "task = [{name=\"a\", period=4, body=[\"work 1\"]}]\ndemand = [{task=\"a\", job=1, item=1, ticks=2}, {task=\"a\", job=2, item=1, ticks=2}, {task=\"a\", job=1, item=1, ticks=3}]") ≡ Err (Repeat section.Demand 3)
+unfolding file_on_literals
+demand_twice = refl
+
 -- the shape comes before the object's name
 pub shape_first : set_of (codes "task = [{name=\"t\", period=9, body=[\"add nosuch x\"]}]") ≡ Err (Item 1 1)
 unfolding file_on_literals
@@ -284,16 +417,16 @@ pub shift_item : shape_of (words_of (codes "shift r 3 0 8")) ≡ Some (On (codes
 shift_item = refl
 
 -- a register, its old value and its new one, up to four times; zeros stand for the rows that are left out
-pub multi_item : shape_of (words_of (codes "multi r 7 8 9")) ≡ Some (On (codes "r") (Multi 1 (row 7 8 9 ∷ row 0 0 0 ∷ row 0 0 0 ∷ row 0 0 0 ∷ [])))
+pub multi_item : shape_of (words_of (codes "multi r 7 8 9")) ≡ Some (On (codes "r") (Multi 1 (change 7 8 9 ∷ change 0 0 0 ∷ change 0 0 0 ∷ change 0 0 0 ∷ [])))
 multi_item = refl
 
-pub two_rows : shape_of (words_of (codes "multi r 1 2 3 4 5 6")) ≡ Some (On (codes "r") (Multi 2 (row 1 2 3 ∷ row 4 5 6 ∷ row 0 0 0 ∷ row 0 0 0 ∷ [])))
+pub two_rows : shape_of (words_of (codes "multi r 1 2 3 4 5 6")) ≡ Some (On (codes "r") (Multi 2 (change 1 2 3 ∷ change 4 5 6 ∷ change 0 0 0 ∷ change 0 0 0 ∷ [])))
 two_rows = refl
 
-pub three_rows : shape_of (words_of (codes "multi r 1 2 3 4 5 6 7 8 9")) ≡ Some (On (codes "r") (Multi 3 (row 1 2 3 ∷ row 4 5 6 ∷ row 7 8 9 ∷ row 0 0 0 ∷ [])))
+pub three_rows : shape_of (words_of (codes "multi r 1 2 3 4 5 6 7 8 9")) ≡ Some (On (codes "r") (Multi 3 (change 1 2 3 ∷ change 4 5 6 ∷ change 7 8 9 ∷ change 0 0 0 ∷ [])))
 three_rows = refl
 
-pub four_rows : shape_of (words_of (codes "multi r 0 0 5 1 0 6 2 0 7 3 0 8")) ≡ Some (On (codes "r") (Multi 4 (row 0 0 5 ∷ row 1 0 6 ∷ row 2 0 7 ∷ row 3 0 8 ∷ [])))
+pub four_rows : shape_of (words_of (codes "multi r 0 0 5 1 0 6 2 0 7 3 0 8")) ≡ Some (On (codes "r") (Multi 4 (change 0 0 5 ∷ change 1 0 6 ∷ change 2 0 7 ∷ change 3 0 8 ∷ [])))
 four_rows = refl
 
 -- no row, a row of two numbers, a fifth row

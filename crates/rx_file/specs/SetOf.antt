@@ -1,10 +1,10 @@
--- The set of a task file: the order of checks, of which the first that fails gives the fault. The definitions are
--- those of files whose keys at the top are `object` and `task`.
-use Rattle.std.specs.Prelude.{ℕ, ◌+◌, ◌==◌, ◌&&◌, nat_le, if◌then◌else◌, List, [], ◌∷◌, length, map, None, Result, Ok, Err, ok_or}
-use Rattle.std.specs.Str.{is_utf8}
-use Rattle.toml.specs.Data.{Data, Items, Members, as_table}
+-- The set of a task file: the order of checks, of which the first that fails gives the fault.
+use Rattle.std.specs.Prelude.{ℕ, ◌+◌, ◌==◌, ◌&&◌, nat_le, if◌then◌else◌, List, [], ◌∷◌, length, map, codes, Option, Some, None, Result, Ok, Err, ok_or}
+use Rattle.std.specs.Str.{is_utf8, bytes_eq}
+use Rattle.toml.specs.Data.{Data, Items, Members, get_member, as_str, as_table}
 use Rattle.toml.specs.Parse.{parse_document}
-use Rattle.rx_set.specs.declared.policies.Policy.TheVariants.{Rm}
+use Rattle.rx_set.specs.declared.policies.Policy.{Policy}
+use Rattle.rx_set.specs.declared.policies.Policy.TheVariants.{Rm, Dm, Edf}
 use Rattle.rx_set.specs.System.{ObjectRow, TaskRow, System}
 use Rattle.rx_set.specs.Valid.{task_name}
 use Rattle.rx_file.specs.declared.faults.Section.TheVariants as section
@@ -14,10 +14,11 @@ use Rattle.rx_file.specs.declared.faults.FileFault.{FileFault}
 use Rattle.rx_file.specs.declared.faults.FileFault.TheVariants as fault
 use Rattle.rx_file.specs.declared.places.Place.{Place}
 use Rattle.rx_file.specs.Steps.{◌>>=◌, ◌>>◌}
-use Rattle.rx_file.specs.Fields.{field, range, name_at, is_new, number_at, number_or, only_keys}
+use Rattle.rx_file.specs.Fields.{field, range, key_of, name_at, is_new, number_at, number_or, only_keys}
 use Rattle.rx_file.specs.Arrays.{items_len, array_at, array_or_empty, up_to, all_of}
 use Rattle.rx_file.specs.Objects.{objects_of}
 use Rattle.rx_file.specs.Items.{items_of}
+use Rattle.rx_file.specs.Demands.{demands_of}
 
 -- the array at `body`, of 1 to 64 items
 unfoldable pub body_at : Place → Members → Result Items FileFault
@@ -58,6 +59,26 @@ tasks_of objects rows = all_of (task_of_value objects) rows
 abbrev pub top : Place
 top = record { section = section.Top; row = 0 }
 
+-- the policy that a word names
+abbrev pub policy_of : List ℕ → Option Policy
+policy_of word =
+    if bytes_eq word (codes "rm") then Some Rm
+    else (if bytes_eq word (codes "dm") then Some Dm
+    else (if bytes_eq word (codes "edf") then Some Edf else None))
+
+unfoldable pub policy_in : Data → Result Policy FileFault
+policy_in value = do
+  word ← ok_or (as_str value) (field top label.Policy)
+  ok_or (policy_of word) (range top label.Policy)
+
+-- the policy, which is rate monotonic where it is left out
+abbrev pub policy_or_default : Option Data → Result Policy FileFault
+policy_or_default None = Ok Rm
+policy_or_default (Some value) = policy_in value
+
+unfoldable pub policy_at : Members → Result Policy FileFault
+policy_at file = policy_or_default (get_member (key_of label.Policy) file)
+
 -- the array at `object`
 unfoldable pub object_rows : Members → Result Items FileFault
 object_rows file = do
@@ -75,18 +96,27 @@ task_rows file = do
   rows ← some_rows all
   up_to 32 section.Task rows
 
+-- the array at `demand`
+unfoldable pub demand_rows : Members → Result Items FileFault
+demand_rows file = do
+  rows ← array_or_empty top label.Demand file
+  up_to 1000 section.Demand rows
+
 abbrev pub top_labels : List Label
-top_labels = label.Object ∷ label.Task ∷ []
+top_labels = label.Policy ∷ label.Object ∷ label.Task ∷ label.Demand ∷ []
 
 -- the set of a document
 unfoldable pub set_of_file : Members → Result System FileFault
 set_of_file file = do
+  policy ← policy_at file
   of_objects ← object_rows file
   of_tasks ← task_rows file
+  of_demands ← demand_rows file
   only_keys top top_labels file
   objects ← objects_of of_objects
   tasks ← tasks_of objects of_tasks
-  Ok (record { policy = Rm; objects = objects; tasks = tasks; demands = [] })
+  demands ← demands_of tasks of_demands
+  Ok (record { policy = policy; objects = objects; tasks = tasks; demands = demands })
 
 -- the document that bytes write
 unfoldable pub file_of : List ℕ → Result Members FileFault

@@ -36,7 +36,7 @@ pub enum Label {
     Other,
 }
 
-/// The first fault of a task file. Rows, tasks and items are numbered from 1; the keys at the top are row 0.
+/// The first fault of a task file. Rows, tasks and items are numbered from 1; the keys at the top have the number 0 in place of a row's.
 #[derive(Clone, Copy, Debug, PartialEq, Eq)]
 pub enum FileFault {
     /// Fault 1: the bytes are no TOML document.
@@ -52,7 +52,7 @@ pub enum FileFault {
         section: Section,
         row: u32,
     },
-    /// Fault 4: an earlier row of the section has this name.
+    /// Fault 4: an earlier row of the section has this name, or, of `demand`, names the same item of the same job.
     Repeat {
         section: Section,
         row: u32,

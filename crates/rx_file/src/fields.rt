@@ -14,7 +14,7 @@ use rx_set::Name;
 use toml::{Table, Value};
 
 /// What a key holds.
-fn find<'a>(row: &'a Table, label: Label) -> Option<&'a Value>
+pub(crate) fn find<'a>(row: &'a Table, label: Label) -> Option<&'a Value>
     ensures { option_map (λ v. view v.now) result ≡ get_member (key_of label) (table_view row.now) }
 {
     row.get(label.key())
@@ -89,21 +89,29 @@ fn is_name(name: &[u8]) -> bool
 
 /// The name at `name`.
 #[tactic(auto, unfolding(crate::specs::Fields::name_at))]
-pub(crate) fn name_at(place: Place, row: &Table) -> Result<Name, FileFault>
-    ensures value { Shows (λ name. name.bytes) (name_at place (table_view row.now)) result }
-    ensures name { IfOk result (λ name. is_name name.bytes ≡ true) }
+pub(crate) fn name_at<'a>(place: Place, row: &'a Table) -> Result<&'a str, FileFault>
+    ensures value { Shows (λ name. name.now) (name_at place (table_view row.now)) result }
+    ensures name { IfOk result (λ name. is_name name.now ≡ true) }
 {
     let text = text_at(place, Label::Name, row)?;
     if is_name(text.as_bytes()) {
-        let mut name = Name::new();
-        name.push_str(text);
-        Ok(name)
+        Ok(text)
     } else {
         Err(FileFault::Name {
             section: place.section,
             row: place.row,
         })
     }
+}
+
+/// A name on its own, without the document.
+pub(crate) fn name_of(text: &str) -> Name
+    requires { is_name text.now ≡ true }
+    ensures { result.bytes ≡ text.now }
+{
+    let mut name = Name::new();
+    name.push_str(text);
+    name
 }
 
 /// An integer from least to most.

@@ -1,9 +1,11 @@
 //! Reads a task file, a document in TOML, into a set of tasks and objects, and names the first fault of one that is no set.
 #![tactic(auto)]
 
+mod demands;
 mod faults;
 mod fields;
 mod items;
+mod names;
 mod objects;
 mod places;
 mod sets;

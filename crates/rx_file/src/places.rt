@@ -40,7 +40,7 @@ impl Place {
         }
     }
 
-    /// A name that an earlier row of the section has.
+    /// What an earlier row of the section has already: a name, or an item of a job.
     pub(crate) fn repeat(self) -> FileFault
         ensures { result ≡ repeat self }
     {

@@ -2,17 +2,50 @@
 ghost use Rattle.std.specs.Prelude.{◌≡◌, ◌≤◌, length, IfOk};
 ghost use Rattle.toml.specs.View.{items_view, table_view};
 ghost use Rattle.rx_file.specs.Arrays.{up_to};
-ghost use Rattle.rx_file.specs.SetOf.{object_rows, task_rows, set_of_file, file_of, set_of};
+ghost use Rattle.rx_file.specs.SetOf.{policy_of, policy_at, object_rows, task_rows, demand_rows, set_of_file, file_of, set_of};
 ghost use Rattle.rx_file.specs.Gives.{Shows, Gives, SetGives};
 
+use crate::demands::read_demands;
 use crate::faults::{FileFault, Label, Section};
-use crate::fields::{array_at, array_or_empty, only_keys};
+use crate::fields::{array_at, array_or_empty, find, only_keys};
 use crate::objects::read_objects;
 use crate::places::TOP;
 use crate::tasks::read_tasks;
 use rx_set::{Policy, TaskSet};
 use std::alloc::Global;
 use toml::{Table, Value};
+
+/// The keys at the top.
+const TOP_LABELS: [Label; 4] = [Label::Policy, Label::Object, Label::Task, Label::Demand];
+
+/// The policy that a word names.
+fn policy_of(word: &[u8]) -> Option<Policy>
+    ensures { result ≡ policy_of word.now }
+{
+    if word == b"rm".as_slice() {
+        Some(Policy::Rm)
+    } else if word == b"dm".as_slice() {
+        Some(Policy::Dm)
+    } else if word == b"edf".as_slice() {
+        Some(Policy::Edf)
+    } else {
+        None
+    }
+}
+
+/// The policy at `policy`, which is rate monotonic where it is left out.
+#[tactic(auto, unfolding(crate::specs::SetOf::policy_at, crate::specs::SetOf::policy_in))]
+fn policy_at(file: &Table) -> Result<Policy, FileFault>
+    ensures { result ≡ policy_at (table_view file.now) }
+{
+    match find(file, Label::Policy) {
+        Some(value) => {
+            let word = value.as_str().ok_or(TOP.field(Label::Policy))?;
+            policy_of(word.as_bytes()).ok_or(TOP.range(Label::Policy))
+        }
+        None => Ok(Policy::Rm),
+    }
+}
 
 /// Refuses more rows of a section than it may have.
 #[tactic(auto, using(crate::proofs::Read::items_len_view), unfolding(crate::specs::Arrays::up_to))]
@@ -53,17 +86,35 @@ fn task_rows<'a>(file: &'a Table) -> Result<&'a [Value], FileFault>
     up_to(32, Section::Task, rows)
 }
 
+/// The array at `demand`.
+#[tactic(auto, unfolding(crate::specs::SetOf::demand_rows))]
+fn demand_rows<'a>(file: &'a Table) -> Result<&'a [Value], FileFault>
+    ensures value { Shows (λ rows. items_view rows.now) (demand_rows (table_view file.now)) result }
+    ensures few { IfOk result (λ rows. length rows.now ≤ 1000) }
+{
+    let rows = array_or_empty(TOP, Label::Demand, file)?;
+    up_to(1000, Section::Demand, rows)
+}
+
 /// The set of a document.
 #[tactic(auto, unfolding(crate::specs::SetOf::set_of_file))]
 fn read_file(alloc: Global, file: &Table) -> Result<TaskSet, FileFault>
     ensures { Gives (λ set. set) (set_of_file (table_view file.now)) result }
 {
+    let policy = policy_at(file)?;
     let of_objects = object_rows(file)?;
     let of_tasks = task_rows(file)?;
-    only_keys(TOP, &[Label::Object, Label::Task], file)?;
+    let of_demands = demand_rows(file)?;
+    only_keys(TOP, &TOP_LABELS, file)?;
     let objects = read_objects(alloc, of_objects)?;
-    let tasks = read_tasks(alloc, objects.as_slice(), of_tasks)?;
-    Ok(TaskSet::build(Policy::Rm, objects, tasks, Vec::new(alloc)))
+    let tasks = read_tasks(alloc, &objects, of_tasks)?;
+    let demands = read_demands(alloc, &tasks, of_demands)?;
+    Ok(TaskSet::build(
+        policy,
+        objects.into_rows(),
+        tasks.into_rows(),
+        demands.into_rows(),
+    ))
 }
 
 /// The document that bytes write.
@@ -87,7 +138,9 @@ fn read_document(alloc: Global, bytes: &[u8]) -> Result<Table, FileFault>
 }
 
 /// Reads a task file into a set of tasks, or answers its first fault. The file is a document in TOML, of at most
-/// 1,048,576 bytes, whose only keys are `object` and `task`.
+/// 1,048,576 bytes, whose only keys are `policy`, `object`, `task` and `demand`.
+///
+/// `policy` is the string `rm`, `dm` or `edf`, and `rm` where it is left out.
 ///
 /// `object` is an array of at most 16 tables, and empty where it is left out. Each has
 ///
@@ -106,10 +159,23 @@ fn read_document(alloc: Global, bytes: &[u8]) -> Result<Table, FileFault>
 ///   `insert o k`, `remove o k` and `has o k` on a list, and `read o i`, `shift o f t n` and `multi o`, which 1 to 4
 ///   rows `i x y` follow, on registers. Numbers have up to 10 digits, and at most 32 bits.
 ///
-/// The policy is rate monotonic. The two arrays and the other keys at the top are looked at first, then the rows of
-/// `object` and the rows of `task` in order, each key by key in the order of these lists, then for other keys, then item
-/// by item: its shape, its object, and whether the call fits. `NoMemory` may come for any file, and says nothing of it.
-/// The cost grows with the number of bytes, and for each item with the number of objects.
+/// `demand` is an array of at most 1,000 tables, and empty where it is left out. Each has
+///
+/// - `task`, a string: the name of a task;
+/// - `job`, an integer from 1 to 1,000,000;
+/// - `item`, an integer: the number of a work item in the body of that task, from 1;
+/// - `ticks`, an integer from 1 to 1,000,000.
+///
+/// No two rows of `demand` have the same task, job and item.
+///
+/// The policy, the three arrays and the other keys at the top are looked at first, then the rows of `object`, of `task`
+/// and of `demand` in order, each key by key in the order of these lists, then for other keys, and then a task item by
+/// item: its shape, its object, and whether the call fits; and a row of `demand` for an earlier row that names the same
+/// item of the same job. `NoMemory` may come for any file, and says nothing of it.
+///
+/// Beside what `toml` takes for the document, the cost grows with the number of bytes, for each name and item with the
+/// logarithm of the number of objects or tasks, and for each row of `demand` with that of the number of these rows. What
+/// `TaskSet::build` takes comes on top of it.
 #[tactic(auto, unfolding(crate::specs::SetOf::set_of))]
 pub fn read_set(alloc: Global, bytes: &[u8]) -> Result<TaskSet, FileFault>
     requires { length bytes.now ≤ 1048576 }

@@ -1,6 +1,5 @@
-use Rattle.std.proofs.Common.{◌≡◌, [], length, drop, map}
+use Rattle.std.proofs.Common.{◌≡◌, [], length, drop}
 use Rattle.toml.specs.View.{items_view}
-use Rattle.rx_set.specs.View.{object_row, row_of}
 use Rattle.rx_file.specs.Arrays.{all_after}
 use Rattle.rx_file.specs.SetOf.{task_of_value}
 use Rattle.rx_file.specs.Gives.{AreTasks}
@@ -9,8 +8,8 @@ use Rattle.rx_file.proofs.tasks.read_tasks.Given as goal
 abbrev pub invariant-loop-value : goal.invariant-loop-value
 invariant-loop-value l = record {
   tasks :
-      all_after (task_of_value (map object_row l.objects)) [] (items_view l.values)
-      ≡ all_after (task_of_value (map object_row l.objects)) (map row_of l.tasks.items) (items_view (drop l.value-index l.values));
-  good : AreTasks (map object_row l.objects) (map row_of l.tasks.items);
-  count : length l.tasks.items ≡ l.value-index;
+      all_after (task_of_value l.objects) [] (items_view l.values)
+      ≡ all_after (task_of_value l.objects) l.tasks (items_view (drop l.value-index l.values));
+  good : AreTasks l.objects l.tasks;
+  count : length l.tasks ≡ l.value-index;
 }
