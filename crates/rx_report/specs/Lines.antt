@@ -13,9 +13,15 @@ use Rattle.rx_set.specs.declared.items.Item.{Item}
 use Rattle.rx_set.specs.declared.items.Item.TheVariants.{Work, Op}
 use Rattle.rx_set.specs.declared.jobs.Job.{Job}
 use Rattle.rx_set.specs.System.{System, ObjectRow, task_of}
-use Rattle.rx_tick.specs.declared.events.Event.{Event}
-use Rattle.rx_tick.specs.declared.events.Event.TheVariants.{Miss, Release, Preempt, Reply, Retry, Finish}
-use Rattle.rx_tick.specs.declared.totals.Totals.{Totals}
+use Rattle.rx_file.specs.declared.faults.Section.{Section}
+use Rattle.rx_file.specs.declared.faults.Section.TheVariants as section
+use Rattle.rx_file.specs.declared.faults.Label.{Label}
+use Rattle.rx_file.specs.declared.faults.Label.TheVariants as label
+use Rattle.rx_file.specs.declared.faults.FileFault.{FileFault}
+use Rattle.rx_file.specs.declared.faults.FileFault.TheVariants as fault
+use Rattle.rx_ledger.specs.declared.events.Event.{Event}
+use Rattle.rx_ledger.specs.declared.events.Event.TheVariants.{Miss, Release, Preempt, Reply, Retry, Finish}
+use Rattle.rx_ledger.specs.declared.totals.Totals.{Totals}
 
 -- a space and a number
 abbrev pub spaced : ℕ → List ℕ
@@ -126,3 +132,58 @@ total_line totals =
     codes "total ticks" ++ spaced totals.ticks ++ codes " idle" ++ spaced totals.idle ++ codes " released" ++ spaced totals.released
     ++ codes " finished" ++ spaced totals.finished ++ codes " replies" ++ spaced totals.replies ++ codes " retries" ++ spaced totals.retries
     ++ codes " preempted" ++ spaced totals.preempted ++ codes " missed" ++ spaced totals.missed ++ codes "\n"
+
+-- the word of a section of a task file
+abbrev pub section_word : Section → List ℕ
+section_word section.Top = codes "top"
+section_word section.Object = codes "object"
+section_word section.Task = codes "task"
+section_word section.Demand = codes "demand"
+
+-- the word of what in a row a fault is about
+abbrev pub label_word : Label → List ℕ
+label_word label.Policy = codes "policy"
+label_word label.Object = codes "object"
+label_word label.Task = codes "task"
+label_word label.Demand = codes "demand"
+label_word label.Whole = codes "whole"
+label_word label.Name = codes "name"
+label_word label.Kind = codes "kind"
+label_word label.Capacity = codes "capacity"
+label_word label.Period = codes "period"
+label_word label.Deadline = codes "deadline"
+label_word label.Offset = codes "offset"
+label_word label.Body = codes "body"
+label_word label.Job = codes "job"
+label_word label.Item = codes "item"
+label_word label.Ticks = codes "ticks"
+label_word label.Other = codes "other"
+
+-- what is wrong, with the section and the number of its row
+abbrev pub row_fault : List ℕ → Section → ℕ → List ℕ
+row_fault what part row = what ++ section_word part ++ spaced row
+
+-- the same, and what in the row is wrong
+abbrev pub key_fault : List ℕ → Section → ℕ → Label → List ℕ
+key_fault what part row key = row_fault what part row ++ codes " " ++ label_word key
+
+-- what is wrong, with the numbers of a task and of its item
+abbrev pub item_fault : List ℕ → ℕ → ℕ → List ℕ
+item_fault what task item = what ++ spaced task ++ spaced item
+
+-- What a fault tells: its number and its word, and where it is. Want of memory is no fault of a file, and has no text.
+abbrev pub fault_text : FileFault → List ℕ
+fault_text fault.NotToml = codes "not toml"
+fault_text (fault.Field part row key) = key_fault (codes "set 2 field ") part row key
+fault_text (fault.Name part row) = row_fault (codes "set 3 name ") part row
+fault_text (fault.Repeat part row) = row_fault (codes "set 4 repeat ") part row
+fault_text (fault.Range part row key) = key_fault (codes "set 5 range ") part row key
+fault_text (fault.Item task item) = item_fault (codes "set 6 item") task item
+fault_text (fault.Unknown task item) = item_fault (codes "set 7 unknown") task item
+fault_text (fault.Misfit task item) = item_fault (codes "set 8 misfit") task item
+fault_text (fault.TooMany part count) = row_fault (codes "set 9 many ") part count
+fault_text fault.NoMemory = []
+
+-- the line of a fault
+abbrev pub fault_line : FileFault → List ℕ
+fault_line fault = fault_text fault ++ codes "\n"

@@ -6,8 +6,8 @@ use crate::items::{push_item, push_object};
 use crate::jobs::{push_job, push_told, push_told_item};
 use crate::lines::{Line, push_field, push_text};
 use crate::replies::push_reply;
+use rx_ledger::Event;
 use rx_set::TaskSet;
-use rx_tick::Event;
 
 /// Appends what an event tells, which is at most 298 bytes.
 fn push_event(set: &TaskSet, event: &Event, line: &mut Line)

@@ -2,9 +2,9 @@
 ghost use Rattle.std.specs.Prelude.{◌≡◌, ◌<◌, length, IfOk};
 
 use super::*;
+use rx_ledger::Event;
 use rx_seq::{Call, Kind, Part, Reply, Row, State};
 use rx_set::{Body, Item, Job, Name, Object, Policy, Task, TaskSet};
-use rx_tick::Event;
 use std::alloc::Global;
 use std::test::Fail;
 

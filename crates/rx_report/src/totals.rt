@@ -3,7 +3,7 @@ ghost use Rattle.std.specs.Prelude.{◌≡◌};
 ghost use Rattle.rx_report.specs.Lines.{total_line};
 
 use crate::lines::{Line, push_field, push_text};
-use rx_tick::Totals;
+use rx_ledger::Totals;
 
 /// Makes `out` the line of the totals, which ends a report:
 /// `total ticks A idle B released C finished D replies E retries F preempted G missed H` and a line feed. What stood in

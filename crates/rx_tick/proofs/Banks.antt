@@ -36,12 +36,12 @@ use Rattle.rx_machine.specs.declared.steps.Step.TheVariants.{Going}
 use Rattle.rx_machine.specs.Operations.{Operation, Outlook, Unsettled, Settled, Progress as Attempting, Follows, fresh, goes_on as on_with, begun, steps_as, attempt_steps, attempt_for}
 use Rattle.rx_machine.specs.Steps.{Loads, Spends, Reads, Writes, Idles, Decides}
 use Rattle.rx_machine.specs.OnBanks.{Stepped, TellsOf, history_by, bank_stands, bank_view}
+use Rattle.rx_ledger.specs.declared.events.Event.TheVariants as Event
 use Rattle.rx_tick.specs.declared.objects.Objects.{Objects}
 use Rattle.rx_tick.specs.declared.states.State.{State}
 use Rattle.rx_tick.specs.declared.states.Made.{Made}
 use Rattle.rx_tick.specs.declared.states.Made.TheVariants.{On, Ended, Lost}
 use Rattle.rx_tick.specs.Schedule.{Slot, Busy, Decide, Progress, completed, lost, ticked, after, progress, history, won_after, wins_on, ends_work, decides, tick_in, tick_of, slot_of, slots, slot_at}
-use Rattle.rx_tick.specs.declared.events.Event.TheVariants as Event
 use Rattle.rx_tick.specs.Events.{wins, wins_below, decision}
 use Rattle.rx_tick.specs.Laws.{who, finished_before, asked_by}
 use Rattle.rx_tick.specs.States.{job, progress_of, with_progress, after_slot, progress_made}

@@ -7,8 +7,8 @@ use Rattle.rx_seq.specs.History.{tag_of}
 use Rattle.rx_seq.specs.declared.replies.Reply.{Reply as Answer}
 use Rattle.rx_set.specs.declared.jobs.Job.{Job}
 use Rattle.rx_set.specs.System.{System}
-use Rattle.rx_tick.specs.declared.events.Event.{Event}
-use Rattle.rx_tick.specs.declared.events.Event.TheVariants.{Miss, Release, Preempt, Reply, Retry, Finish}
+use Rattle.rx_ledger.specs.declared.events.Event.{Event}
+use Rattle.rx_ledger.specs.declared.events.Event.TheVariants.{Miss, Release, Preempt, Reply, Retry, Finish}
 use Rattle.rx_tick.specs.Schedule.{Slot, Idle, Busy, Decide, job_in, same, is_finished, history, slots, slot_at}
 use Rattle.rx_tick.specs.Events.{misses, is_missed, releases, is_released_at, jobs_where, wins, wins_below, preempted, preemption, last_job, decision, finished_in, finish, events_of, events}
 use Rattle.rx_tick.specs.Laws.{so_far, IsReply, IsRetry}

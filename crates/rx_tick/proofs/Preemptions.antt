@@ -9,8 +9,8 @@ use Rattle.rx_set.specs.declared.jobs.Job.{Job}
 use Rattle.rx_set.specs.System.{System, release, key, is_below}
 use Rattle.rx_set.specs.Valid.{IsValid}
 use Rattle.rx_set.proofs.Keys.{jobs_same}
-use Rattle.rx_tick.specs.declared.events.Event.{Event}
-use Rattle.rx_tick.specs.declared.events.Event.TheVariants.{Miss, Release, Preempt, Reply, Retry, Finish}
+use Rattle.rx_ledger.specs.declared.events.Event.{Event}
+use Rattle.rx_ledger.specs.declared.events.Event.TheVariants.{Miss, Release, Preempt, Reply, Retry, Finish}
 use Rattle.rx_tick.specs.Schedule.{Slot, Idle, Busy, Decide, job_in, same, progress, is_finished, slots, slot_at}
 use Rattle.rx_tick.specs.Events.{misses, is_missed, releases, is_released_at, jobs_where, wins, wins_below, preempted, preemption, decision, finished_in, finish, events_of, events}
 use Rattle.rx_tick.specs.Laws.{who, finished_before, IsPendingAt, IsPreemption}

@@ -4,11 +4,11 @@ use Rattle.std.specs.Prelude.{count_by, map}
 use Rattle.std.proofs.lemmas.List.Sums.{sum_by-append}
 use Rattle.rx_set.specs.declared.jobs.Job.{Job}
 use Rattle.rx_set.specs.System.{System}
-use Rattle.rx_tick.specs.declared.events.Event.{Event}
-use Rattle.rx_tick.specs.declared.events.Event.TheVariants.{Miss, Release, Preempt, Finish}
+use Rattle.rx_ledger.specs.declared.events.Event.{Event}
+use Rattle.rx_ledger.specs.declared.events.Event.TheVariants.{Miss, Release, Preempt, Finish}
+use Rattle.rx_ledger.specs.Counts.{is_reply, is_retry}
 use Rattle.rx_tick.specs.Schedule.{Slot, Idle, Busy, Decide, job_in, same, is_finished, slots, slot_at}
 use Rattle.rx_tick.specs.Events.{misses, is_missed, releases, is_released_at, jobs_where, preempted, preemption, last_job, decision, finished_in, finish, events_of, events}
-use Rattle.rx_tick.specs.Counts.{is_reply, is_retry}
 use Rattle.rx_tick.specs.Sums.{decided_in, decided_slots}
 
 -- the replies and the retries among some events

@@ -12,8 +12,8 @@ use Rattle.rx_set.specs.declared.jobs.Job.{Job}
 use Rattle.rx_set.specs.System.{System, TaskRow, no_task, task_at, release, due}
 use Rattle.rx_set.specs.Valid.{IsValid}
 use Rattle.rx_set.proofs.Releases.{release_order, release_apart, number_bound}
+use Rattle.rx_ledger.specs.declared.events.Event.TheVariants.{Miss, Release}
 use Rattle.rx_tick.specs.declared.states.State.{State}
-use Rattle.rx_tick.specs.declared.events.Event.TheVariants.{Miss, Release}
 use Rattle.rx_tick.specs.Schedule.{Slot, Progress, is_finished, jobs_of, slots}
 use Rattle.rx_tick.specs.Events.{is_missed, is_released_at, misses, releases}
 use Rattle.rx_tick.specs.States.{job, IsState, IsBeforeDue, AreBeforeDue, AreBeforeRelease, AreStates, is_late_at, in_hand, no_state, state_at, misses_at, releases_at}

@@ -8,7 +8,7 @@ use Rattle.rx_set.specs.declared.items.Item.{Item}
 use Rattle.rx_set.specs.declared.items.Item.TheVariants.{Work, Op}
 use Rattle.rx_set.specs.declared.jobs.Job.{Job}
 use Rattle.rx_set.specs.System.{System, ObjectRow, TaskRow}
-use Rattle.rx_tick.specs.declared.events.Event.TheVariants.{Miss, Release, Preempt, Reply, Retry, Finish}
+use Rattle.rx_ledger.specs.declared.events.Event.TheVariants.{Miss, Release, Preempt, Reply, Retry, Finish}
 use Rattle.rx_tick.specs.Schedule.{slots}
 use Rattle.rx_tick.specs.Events.{events, misses}
 

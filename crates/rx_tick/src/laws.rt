@@ -9,12 +9,12 @@ ghost use Rattle.rx_set.specs.Valid.{IsJobOf, IsValid, IsWork};
 ghost use Rattle.rx_set.specs.declared.items.Item.{Item};
 ghost use Rattle.rx_set.specs.declared.items.Item.TheVariants.{Op};
 ghost use Rattle.rx_set.specs.declared.jobs.Job.{Job};
-ghost use Rattle.rx_tick.specs.Counts.{is_reply, is_retry};
+ghost use Rattle.rx_ledger.specs.Counts.{is_reply, is_retry};
+ghost use Rattle.rx_ledger.specs.declared.events.Event.TheVariants.{Preempt, Reply, Retry};
 ghost use Rattle.rx_tick.specs.Events.{events, wins, wins_below};
 ghost use Rattle.rx_tick.specs.Laws.{FollowsBodies, IsAmid, IsLeastAt, IsPendingAt, IsPreemption, IsReply, IsRetry, IsSpoiled, asked_by, asked_up_to, finished_before, lost_ticks, nth_job, slots_of, so_far, who};
 ghost use Rattle.rx_tick.specs.Schedule.{Busy, Decide, Idle, history, slot_at, slots};
 ghost use Rattle.rx_tick.specs.Sums.{decided_slots};
-ghost use Rattle.rx_tick.specs.declared.events.Event.TheVariants.{Preempt, Reply, Retry};
 ghost use Rattle.std.specs.List.{Contains};
 ghost use Rattle.std.specs.Prelude.{ℕ, Option, List, suc, ◌∷◌, ◌++◌, ◌≡◌, ◌≢◌, ◌≤◌, ◌<◌, ◌+◌, ◌-◌, ◌↔◌, count_by, length, drop, slice_get, Some, None, true, false};
 

@@ -1,7 +1,6 @@
 //! The executive: one simulated processor that counts ticks, and the events of its schedule.
 #![tactic(auto)]
 
-mod events;
 mod executive;
 pub mod laws;
 mod looks;
@@ -9,10 +8,7 @@ mod objects;
 mod slots;
 mod states;
 mod ticks;
-mod totals;
 mod turns;
 
-pub use events::Event;
 pub use executive::Executive;
 pub use ticks::Tick;
-pub use totals::Totals;

@@ -8,10 +8,10 @@ ghost use Rattle.rx_tick.specs.Events.{misses, releases};
 ghost use Rattle.rx_tick.specs.States.{AreStates, IsState, IsBeforeDue, AreBeforeDue, AreBeforeRelease, AreOffers, offer, with_offer, best_of, in_hand, state_at, misses_at, releases_at, is_late_at};
 ghost use Rattle.rx_set.specs.System.{task_at, is_below as key_below};
 
-use crate::events::Event;
 use crate::states::State;
 use crate::turns::Turn;
 use arrayvec::ArrayVec;
+use rx_ledger::Event;
 use rx_set::{Job, Key, TaskSet};
 
 /// Whether the latest job that a task released is unfinished, and due now.

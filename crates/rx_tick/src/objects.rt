@@ -11,9 +11,9 @@ ghost use Rattle.rx_tick.specs.Banks.{CanStep, HasStepped, HasTicked, IsTicking}
 ghost use Rattle.rx_tick.specs.Events.{decision};
 ghost use Rattle.rx_tick.specs.Schedule.{slot_at, slots};
 
-use crate::events::Event;
 use crate::states::{Made, State};
 use arrayvec::ArrayVec;
+use rx_ledger::Event;
 use rx_machine::laws::steps_on_a_bank;
 use rx_machine::{Machine, Step};
 use rx_port::Bank;

@@ -9,12 +9,12 @@ ghost use Rattle.rx_tick.specs.Events.{preempted, finish, events_of, decision};
 ghost use Rattle.rx_tick.specs.States.{AreStates, IsTurn, AreBeforeDue, AreBeforeRelease, best_of, after_slot};
 ghost use Rattle.rx_tick.specs.Banks.{HasTicked, IsBankOf, IsInHand, IsKept, IsTicking, KeepsMachines, Touches};
 
-use crate::events::Event;
 use crate::looks::{look_at_dues, look_at_releases, pick};
 use crate::objects::Objects;
 use crate::states::{Made, State};
 use crate::turns::Turn;
 use arrayvec::ArrayVec;
+use rx_ledger::Event;
 use rx_set::{Item, Job, TaskSet};
 
 /// Whether two jobs are one.

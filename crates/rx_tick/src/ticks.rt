@@ -1,8 +1,8 @@
 // One tick, as it is told.
 ghost use Rattle.std.specs.Prelude.{◌≡◌, [], None};
 
-use crate::events::Event;
 use arrayvec::ArrayVec;
+use rx_ledger::Event;
 use rx_set::Job;
 
 /// A slot of the schedule: its number, the job that has it, and its events in order. There is room for a miss and a

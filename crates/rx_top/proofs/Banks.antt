@@ -5,15 +5,15 @@ use Rattle.rx_set.specs.declared.jobs.Job.{Job}
 use Rattle.rx_set.specs.System.{System}
 use Rattle.rx_port.specs.declared.views.Counts.{Counts}
 use Rattle.rx_port.specs.Plain.{Whole}
-use Rattle.rx_tick.specs.declared.events.Event.{Event}
-use Rattle.rx_tick.specs.declared.events.Event.TheVariants.{Miss}
+use Rattle.rx_ledger.specs.declared.events.Event.{Event}
+use Rattle.rx_ledger.specs.declared.events.Event.TheVariants.{Miss}
+use Rattle.rx_ledger.specs.Counts.{is_reply, is_retry}
 use Rattle.rx_tick.specs.Schedule.{slots}
 use Rattle.rx_tick.specs.Events.{jobs_where, is_missed, misses, events}
-use Rattle.rx_tick.specs.Counts.{is_reply, is_retry}
 use Rattle.rx_tick.specs.Banks.{IsBankOf}
 use Rattle.rx_tick.specs.Executive.{Moment, moment}
 use Rattle.rx_tick.specs.Sums.{decided_slots, AreSums}
-use Rattle.rx_report.specs.Report.{run_totals}
+use Rattle.rx_top.specs.Report.{run_totals}
 use Rattle.rx_top.specs.Leaves.{AreTold, IsBankLeft}
 
 -- a miss is neither a reply nor a retry

@@ -3,13 +3,14 @@ use Rattle.std.proofs.Common.{ℕ, ◌≡◌, ◌≤◌, ◌+◌, ◌^◌, List,
 use Rattle.std.proofs.lemmas.Grind.{common_steps, fold-append}
 use Rattle.rx_set.specs.declared.jobs.Job.{Job}
 use Rattle.rx_set.specs.System.{System}
-use Rattle.rx_tick.specs.declared.events.Event.{Event}
-use Rattle.rx_tick.specs.declared.events.Event.TheVariants.{Miss, Release, Preempt, Reply, Retry, Finish}
-use Rattle.rx_tick.specs.declared.totals.Totals.{Totals}
+use Rattle.rx_ledger.specs.declared.events.Event.{Event}
+use Rattle.rx_ledger.specs.declared.events.Event.TheVariants.{Miss, Release, Preempt, Reply, Retry, Finish}
+use Rattle.rx_ledger.specs.declared.totals.Totals.{Totals}
+use Rattle.rx_ledger.specs.Counts.{AreBelow, counted, with_slot}
 use Rattle.rx_tick.specs.Schedule.{Slot, slots, slot_at, job_in}
 use Rattle.rx_tick.specs.Events.{events, events_of, misses}
-use Rattle.rx_tick.specs.Counts.{AreBelow, counted, with_slot, totals_of}
-use Rattle.rx_report.specs.Report.{run_totals}
+use Rattle.rx_tick.specs.Counts.{totals_of}
+use Rattle.rx_top.specs.Report.{run_totals}
 use Rattle.rx_top.specs.Runs.{AreCounts}
 
 -- one more event

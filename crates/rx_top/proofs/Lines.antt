@@ -3,11 +3,11 @@ use Rattle.std.proofs.Common.{ℕ, zero, suc, ◌≡◌, ◌<◌, ◌+◌, ◌-�
 use Rattle.std.proofs.lemmas.Grind.{take_at_read, flat_map-append}
 use Rattle.rx_seq.specs.declared.entries.Entry.{Entry}
 use Rattle.rx_set.specs.System.{System, numbers}
-use Rattle.rx_tick.specs.declared.events.Event.{Event}
+use Rattle.rx_ledger.specs.declared.events.Event.{Event}
 use Rattle.rx_tick.specs.Schedule.{slots, slot_at}
 use Rattle.rx_tick.specs.Events.{events, events_of, misses}
 use Rattle.rx_report.specs.Lines.{event_line, total_line}
-use Rattle.rx_report.specs.Report.{report, object_line_after, object_lines, run_totals}
+use Rattle.rx_top.specs.Report.{report, object_line_after, object_lines, run_totals}
 use Rattle.rx_top.specs.Runs.{lines_of, end_lines, first_objects}
 
 pub lines_append : (system : System) (xs ys : List Event) → lines_of system (xs ++ ys) ≡ lines_of system xs ++ lines_of system ys

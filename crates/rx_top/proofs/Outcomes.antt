@@ -10,23 +10,23 @@ use Rattle.rx_set.specs.System.{System}
 use Rattle.rx_file.specs.SetOf.{set_of}
 use Rattle.rx_top.specs.declared.left.Left.{Left}
 use Rattle.rx_top.specs.declared.status.Status.{Status}
-use Rattle.rx_top.specs.declared.status.Status.TheVariants.{Done, Adverse, Words, ReadFault, BadSet, WriteFault, NoMemory}
+use Rattle.rx_top.specs.declared.status.Status.TheVariants.{Done, Adverse, Words, ReadFault, TooLarge, NotToml, BadSet, WriteFault, NoMemory}
 use Rattle.rx_top.specs.declared.words.Command.{Command}
 use Rattle.rx_top.specs.declared.words.Command.TheVariants.{Run}
 use Rattle.rx_top.specs.Words.{reads_input}
 use Rattle.rx_top.specs.Leaves.{Leaves}
-use Rattle.rx_top.specs.Outcome.{Ends, Answer, answer, input_answer, file_answer, set_answer, run_answer, most_input, Outcome, Answered, Headline}
+use Rattle.rx_top.specs.Outcome.{Ends, Answer, answer, input_answer, file_answer, large_answer, run_answer, most_input, Outcome, Answered, Headline}
 use Rattle.rx_top.specs.Determined.{is_calm, IsDetermined, Determined, Unread}
 
--- an input of too many bytes is no set
-too_large : (of_set : System → Answer) (input : List ℕ) → most_input < length input → input_answer of_set input ≡ set_answer
+-- all inputs of too many bytes have one answer
+too_large : (of_set : System → Answer) (input : List ℕ) → most_input < length input → input_answer of_set input ≡ large_answer
 too_large of_set input h = rw (lt-leb (length input) most_input h) refl
 
 -- and any other has the answer of its file
 fits : (of_set : System → Answer) (input : List ℕ) → length input ≤ most_input → input_answer of_set input ≡ file_answer of_set (set_of input)
 fits of_set input h = rw (le-leb (length input) most_input h) refl
 
--- all inputs of too many bytes have one answer
+-- whatever a command makes of a set
 same_when_large : (command : Option Command) (a b : List ℕ) → reads_input command ≡ true → most_input < length a → most_input < length b → answer command a ≡ answer command b
 same_when_large None a b reads first second = absurd (true≢false (sym reads))
 same_when_large (Some (Run ticks)) a b reads first second = too_large (run_answer ticks) a first ∙ sym (too_large (run_answer ticks) b second)
@@ -93,6 +93,8 @@ module _ (command : Option Command) (before after : Ends) (left : Left) where
   calm_answered Done calm told = told
   calm_answered Adverse calm told = told
   calm_answered Words calm told = told
+  calm_answered TooLarge calm told = told
+  calm_answered NotToml calm told = told
   calm_answered BadSet calm told = told
   calm_answered ReadFault calm told = absurd (true≢false (sym calm))
   calm_answered WriteFault calm told = absurd (true≢false (sym calm))
@@ -104,6 +106,8 @@ module _ (command : Option Command) (before after : Ends) (left : Left) where
   calm_without_faults Done told memory reads writes = refl
   calm_without_faults Adverse told memory reads writes = refl
   calm_without_faults Words told memory reads writes = refl
+  calm_without_faults TooLarge told memory reads writes = refl
+  calm_without_faults NotToml told memory reads writes = refl
   calm_without_faults BadSet told memory reads writes = refl
   calm_without_faults ReadFault told memory reads writes = absurd (omega (arith, told.read_fault, reads))
   calm_without_faults WriteFault told memory reads writes = absurd (omega (arith, told.write_fault, writes))

@@ -4,7 +4,7 @@ use Rattle.std.specs.Io.KnownBytes.{Appends}
 use Rattle.rx_top.specs.declared.words.Command.{Command}
 use Rattle.rx_top.specs.declared.left.Left.{Left}
 use Rattle.rx_top.specs.declared.status.Status.{Status}
-use Rattle.rx_top.specs.declared.status.Status.TheVariants.{Done, Adverse, Words, ReadFault, BadSet, WriteFault, NoMemory}
+use Rattle.rx_top.specs.declared.status.Status.TheVariants.{Done, Adverse, Words, ReadFault, TooLarge, NotToml, BadSet, WriteFault, NoMemory}
 use Rattle.rx_top.specs.Words.{reads_input}
 use Rattle.rx_top.specs.Leaves.{Leaves}
 use Rattle.rx_top.specs.Outcome.{Ends, answer, most_input}
@@ -17,6 +17,8 @@ is_calm NoMemory = false
 is_calm Done = true
 is_calm Adverse = true
 is_calm Words = true
+is_calm TooLarge = true
+is_calm NotToml = true
 is_calm BadSet = true
 
 -- the status, the bytes and the bank are those of the words and the input, and this is the rest of the input

@@ -5,7 +5,7 @@ use Rattle.rx_port.specs.Plain.{Whole}
 use Rattle.rx_tick.specs.Banks.{IsBankOf}
 use Rattle.rx_tick.specs.Schedule.{slots}
 use Rattle.rx_tick.specs.Sums.{AreSums}
-use Rattle.rx_report.specs.Report.{run_totals}
+use Rattle.rx_top.specs.Report.{run_totals}
 use Rattle.rx_port.specs.declared.views.Counts.{Counts}
 use Rattle.rx_top.specs.declared.left.Left.{Left}
 use Rattle.rx_top.specs.declared.left.Left.TheVariants.{Nothing, Bank}

@@ -4,15 +4,17 @@ use Rattle.std.specs.Io.KnownBytes.{Appends, Keeps}
 use Rattle.rx_io.specs.Causes.{Began, IsInput}
 use Rattle.rx_set.specs.System.{System}
 use Rattle.rx_file.specs.declared.faults.FileFault.{FileFault}
+use Rattle.rx_file.specs.declared.faults.FileFault.TheVariants as fault
 use Rattle.rx_file.specs.SetOf.{set_of}
-use Rattle.rx_report.specs.Report.{report, misses_told}
+use Rattle.rx_report.specs.Lines.{fault_line}
 use Rattle.rx_top.specs.declared.left.Left.{Left}
 use Rattle.rx_top.specs.declared.left.Left.TheVariants.{Nothing}
 use Rattle.rx_top.specs.declared.status.Status.{Status}
-use Rattle.rx_top.specs.declared.status.Status.TheVariants.{Done, Adverse, Words, ReadFault, BadSet, WriteFault, NoMemory}
+use Rattle.rx_top.specs.declared.status.Status.TheVariants.{Done, Adverse, Words, ReadFault, TooLarge, NotToml, BadSet, WriteFault, NoMemory}
 use Rattle.rx_top.specs.declared.words.Command.{Command}
 use Rattle.rx_top.specs.declared.words.Command.TheVariants.{Run}
 use Rattle.rx_top.specs.Words.{reads_input}
+use Rattle.rx_top.specs.Report.{report, misses_told}
 use Rattle.rx_top.specs.Leaves.{Ran, Leaves, ran}
 
 -- the exit code of a status
@@ -21,6 +23,8 @@ code_of Done = 0
 code_of Adverse = 1
 code_of Words = 2
 code_of ReadFault = 3
+code_of TooLarge = 4
+code_of NotToml = 5
 code_of BadSet = 6
 code_of WriteFault = 7
 code_of NoMemory = 8
@@ -45,9 +49,18 @@ pub record Answer : Type 0 where
 abbrev pub words_answer : Answer
 words_answer = record { status = Words; output = codes "words\n"; run = None }
 
--- the answer to an input that is no set
-abbrev pub set_answer : Answer
-set_answer = record { status = BadSet; output = codes "set\n"; run = None }
+-- the answer to an input of too many bytes
+abbrev pub large_answer : Answer
+large_answer = record { status = TooLarge; output = codes "too large\n"; run = None }
+
+-- no TOML has a status of its own, and all other faults of a file have one
+abbrev pub fault_status : FileFault → Status
+fault_status fault.NotToml = NotToml
+fault_status _ = BadSet
+
+-- the answer to an input that is no set: its first fault is told
+abbrev pub fault_answer : FileFault → Answer
+fault_answer first = record { status = fault_status first; output = fault_line first; run = None }
 
 -- the answer of a run of so many slots
 abbrev pub run_answer : ℕ → System → Answer
@@ -56,7 +69,7 @@ run_answer ticks system = record { status = if misses_told system ticks == 0 the
 -- the answer to what a task file gives, from the answer to its set
 abbrev pub file_answer : (System → Answer) → Result System FileFault → Answer
 file_answer of_set (Ok system) = of_set system
-file_answer of_set (Err fault) = set_answer
+file_answer of_set (Err first) = fault_answer first
 
 -- an input has at most so many bytes
 abbrev pub most_input : ℕ
@@ -64,7 +77,7 @@ most_input = 1048576
 
 -- the answer to an input, from the answer to its set
 abbrev pub input_answer : (System → Answer) → List ℕ → Answer
-input_answer of_set input = if nat_le (length input) most_input then file_answer of_set (set_of input) else set_answer
+input_answer of_set input = if nat_le (length input) most_input then file_answer of_set (set_of input) else large_answer
 
 -- The answer to the words and the input, with one line for each command.
 abbrev pub answer : Option Command → List ℕ → Answer
@@ -128,6 +141,8 @@ Outcome command before after left NoMemory = Starved command before after left
 Outcome command before after left Done = Answered command before after left Done
 Outcome command before after left Adverse = Answered command before after left Adverse
 Outcome command before after left Words = Answered command before after left Words
+Outcome command before after left TooLarge = Answered command before after left TooLarge
+Outcome command before after left NotToml = Answered command before after left NotToml
 Outcome command before after left BadSet = Answered command before after left BadSet
 
 -- What a command does to the sink alone once its input is read, and what it leaves: it writes its answer and leaves the bank of its run,
@@ -156,6 +171,8 @@ Tells answer old new before after left NoMemory = Silent old new before after le
 Tells answer old new before after left Done = Told answer old new before after left Done
 Tells answer old new before after left Adverse = Told answer old new before after left Adverse
 Tells answer old new before after left Words = Told answer old new before after left Words
+Tells answer old new before after left TooLarge = Told answer old new before after left TooLarge
+Tells answer old new before after left NotToml = Told answer old new before after left NotToml
 Tells answer old new before after left BadSet = Told answer old new before after left BadSet
 
 -- All of the input was read, the bytes taken are those of the report and no others, the status says whether there is a miss, and the bank is that of the run.

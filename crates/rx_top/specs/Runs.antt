@@ -3,13 +3,14 @@ use Rattle.std.specs.Prelude.{ℕ, ◌≡◌, ◌+◌, ◌*◌, List, ◌++◌}
 use Rattle.std.specs.List.{flat_map}
 use Rattle.rx_seq.specs.declared.entries.Entry.{Entry}
 use Rattle.rx_set.specs.System.{System, numbers}
-use Rattle.rx_tick.specs.declared.events.Event.{Event}
-use Rattle.rx_tick.specs.declared.totals.Totals.{Totals}
+use Rattle.rx_ledger.specs.declared.events.Event.{Event}
+use Rattle.rx_ledger.specs.declared.totals.Totals.{Totals}
+use Rattle.rx_ledger.specs.Counts.{AreBelow}
 use Rattle.rx_tick.specs.Schedule.{slots}
 use Rattle.rx_tick.specs.Events.{events, misses}
-use Rattle.rx_tick.specs.Counts.{AreBelow, totals_of}
+use Rattle.rx_tick.specs.Counts.{totals_of}
 use Rattle.rx_report.specs.Lines.{event_line, total_line}
-use Rattle.rx_report.specs.Report.{run_totals, object_line_after, object_lines}
+use Rattle.rx_top.specs.Report.{run_totals, object_line_after, object_lines}
 
 -- the lines of some events
 abbrev pub lines_of : System → List Event → List ℕ

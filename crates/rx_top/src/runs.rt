@@ -1,24 +1,25 @@
 //! Writing a run.
 ghost use Rattle.std.specs.Prelude.{◌≡◌, ◌≤◌, ◌<◌, ◌+◌, ◌^◌, List, length, fold, IfOk, OnOk};
 ghost use Rattle.rx_set.specs.System.{parts_of};
+ghost use Rattle.rx_ledger.specs.Counts.{AreBelow, counted, zeros};
 ghost use Rattle.rx_tick.specs.Banks.{IsBankOf};
 ghost use Rattle.rx_tick.specs.Executive.{moment};
 ghost use Rattle.rx_io.specs.Causes.{Puts};
 ghost use Rattle.rx_tick.specs.Schedule.{Slot, history, slots, slot_at};
 ghost use Rattle.rx_tick.specs.Events.{events, events_of, misses};
-ghost use Rattle.rx_tick.specs.Counts.{AreBelow, counted, zeros};
 ghost use Rattle.rx_report.specs.Lines.{total_line};
-ghost use Rattle.rx_report.specs.Report.{report, run_totals, misses_told, object_line_after};
+ghost use Rattle.rx_top.specs.Report.{report, run_totals, misses_told, object_line_after};
 ghost use Rattle.rx_top.specs.Leaves.{IsBankLeft};
 ghost use Rattle.rx_top.specs.Runs.{lines_of, AreCounts, end_lines, first_objects};
 
 use rx_io::{Failed, Sink, put};
+use rx_ledger::{Event, Totals};
 use rx_port::Bank;
 use rx_report::{Line, event_line, object_line, total_line};
 use rx_seq::State;
 use rx_set::TaskSet;
 use rx_tick::laws::replies_and_retries_are_told;
-use rx_tick::{Event, Executive, Tick, Totals};
+use rx_tick::{Executive, Tick};
 
 /// Counts events, and hands in the line of each.
 fn put_events<K: Sink>(
@@ -143,6 +144,7 @@ fn put_objects<K: Sink>(
     ensures { (past : List Slot) → IsBankOf set.now past bank.now → Puts (K.taken sink.old) (K.taken sink.new) (K.faults sink.old) (K.faults sink.new)
         result (first_objects set.now (history past) (length set.now.objects)) }
 {
+    // That the set is valid, so that it has at most 16 objects.
     let _tasks = set.tasks();
     for object in 0..set.objects().len() {
         match put_object(set, bank, object as u32, line, sink) {

@@ -13,7 +13,11 @@ pub enum Status {
     Words,
     /// The source failed; nothing was written.
     ReadFault,
-    /// The input is no set of tasks; the line `set` was written.
+    /// The input has more than 1,048,576 bytes; the line `too large` was written.
+    TooLarge,
+    /// The input is no TOML document; the line `not toml` was written.
+    NotToml,
+    /// The input is a TOML document and no set of tasks; the line of its first fault was written.
     BadSet,
     /// The sink failed; what it took is the front of what was to be written.
     WriteFault,
@@ -22,7 +26,7 @@ pub enum Status {
 }
 
 impl Status {
-    /// The exit code of the program: 0, 1, 2, 3, 6, 7 and 8, in the order of the variants.
+    /// The exit code of the program: 0 to 8, in the order of the variants.
     pub fn code(self) -> u8
         ensures { result ≡ code_of self }
     {
@@ -31,6 +35,8 @@ impl Status {
             Status::Adverse => 1,
             Status::Words => 2,
             Status::ReadFault => 3,
+            Status::TooLarge => 4,
+            Status::NotToml => 5,
             Status::BadSet => 6,
             Status::WriteFault => 7,
             Status::NoMemory => 8,

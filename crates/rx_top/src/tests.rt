@@ -77,6 +77,34 @@ const REGISTERS: &str =
 const REGISTERS_REPORT: &str =
     "0 release t 1\n13 reply t 1 1 multi r 0 0 5 1 0 6 2 0 7 3 0 8 -> done 4 tag 1\n27 reply t 1 2 multi r 0 5 1 1 6 1 2 9 1 3 8 1 -> differs 7 tag 2\n41 reply t 1 3 read r 2 -> done 7 tag 3\n55 reply t 1 4 shift r 3 0 8 -> done 13 tag 4\n69 reply t 1 5 shift r 3 0 1 -> short 0 tag 5\n69 finish t 1\nobject r registers tag 5 state 13 6 7 0\ntotal ticks 70 idle 0 released 1 finished 1 replies 5 retries 0 preempted 0 missed 0\n";
 
+// A job that needs more than its item states is late.
+const OVERRUN: &str =
+    "[[object]]\nname = \"c\"\nkind = \"cell\"\n\n[[task]]\nname = \"a\"\nperiod = 10\noffset = 2\nbody = [\"add c 1\"]\n\n[[task]]\nname = \"b\"\nperiod = 20\ndeadline = 8\nbody = [\"work 1\", \"add c 5\", \"work 1\"]\n\n[[demand]]\ntask = \"b\"\njob = 1\nitem = 3\nticks = 2\n";
+
+const OVERRUN_REPORT: &str =
+    "0 release b 1\n2 release a 1\n2 preempt b 1 by a 1\n3 reply a 1 1 add c 1 -> done 1 tag 1\n3 finish a 1\n4 retry b 1 2 c tag 0 now 1\n6 reply b 1 2 add c 5 -> done 6 tag 2\n8 miss b 1\n8 finish b 1\nobject c cell tag 2 state 6\ntotal ticks 10 idle 1 released 2 finished 2 replies 2 retries 1 preempted 1 missed 1\n";
+
+// The task with the shorter deadline goes first.
+const SHORTER: &str =
+    "policy = \"dm\"\ntask = [{name=\"x\", period=10, deadline=9, body=[\"work 2\"]}, {name=\"y\", period=20, deadline=4, offset=1, body=[\"work 2\"]}]\n";
+
+const SHORTER_REPORT: &str =
+    "0 release x 1\n1 release y 1\n1 preempt x 1 by y 1\n2 finish y 1\n3 finish x 1\ntotal ticks 6 idle 2 released 2 finished 2 replies 0 retries 0 preempted 1 missed 0\n";
+
+// The job with the earlier deadline goes first, and the attempt of the other is lost.
+const EARLIEST: &str =
+    "policy = \"edf\"\nobject = [{name=\"c\", kind=\"cell\"}]\ntask = [{name=\"a\", period=20, deadline=6, offset=3, body=[\"add c 1\"]}, {name=\"b\", period=20, body=[\"work 2\", \"add c 2\"]}]\n";
+
+const EARLIEST_REPORT: &str =
+    "0 release b 1\n3 release a 1\n3 preempt b 1 by a 1\n4 reply a 1 1 add c 1 -> done 1 tag 1\n4 finish a 1\n5 retry b 1 2 c tag 0 now 1\n7 reply b 1 2 add c 2 -> done 3 tag 2\n7 finish b 1\nobject c cell tag 2 state 3\ntotal ticks 10 idle 2 released 2 finished 2 replies 2 retries 1 preempted 1 missed 0\n";
+
+// Of two jobs with one deadline, that of the task which stands first goes first.
+const TIE: &str =
+    "policy = \"edf\"\ntask = [{name=\"u\", period=10, deadline=8, offset=2, body=[\"work 1\"]}, {name=\"v\", period=10, body=[\"work 4\"]}]\n";
+
+const TIE_REPORT: &str =
+    "0 release v 1\n2 release u 1\n2 preempt v 1 by u 1\n2 finish u 1\n4 finish v 1\ntotal ticks 6 idle 1 released 2 finished 2 replies 0 retries 0 preempted 1 missed 0\n";
+
 fn split(alloc: Global, text: &str) -> Result<Vec<String>, AllocError> {
     let mut words = Vec::new(alloc);
     for word in text.split(' ') {
@@ -111,17 +139,36 @@ fn answers_words_and_input(rt: HostRuntime) -> Result<(), Fail> {
             Status::Done,
             REGISTERS_REPORT,
         ),
-        ("run 10", "", 4096, 0, 0, Status::BadSet, "set\n"),
+        (
+            "run 10",
+            OVERRUN,
+            4096,
+            0,
+            0,
+            Status::Adverse,
+            OVERRUN_REPORT,
+        ),
+        ("run 6", SHORTER, 4096, 0, 0, Status::Done, SHORTER_REPORT),
+        (
+            "run 10",
+            EARLIEST,
+            4096,
+            0,
+            0,
+            Status::Done,
+            EARLIEST_REPORT,
+        ),
+        ("run 6", TIE, 4096, 0, 0, Status::Done, TIE_REPORT),
         ("run 10", FILE, 4096, 1, 0, Status::ReadFault, ""),
         ("run 10", FILE, 4096, 0, 1, Status::WriteFault, ""),
         (
             "run 10",
-            FILE,
+            SHARED,
             4096,
             0,
             3,
             Status::WriteFault,
-            "0 release b 1\n1 release a 1\n",
+            "0 release b 1\n2 release a 1\n",
         ),
         ("run 10", "", 1, 0, 3, Status::WriteFault, "se"),
         ("runs 10", FILE, 4096, 1, 0, Status::Words, "words\n"),
@@ -137,6 +184,118 @@ fn answers_words_and_input(rt: HostRuntime) -> Result<(), Fail> {
         assert_eq!(rt; status, want);
         assert_eq!(rt; sink.taken(), taken.as_bytes());
     }
+    Ok(())
+}
+
+// Seventeen objects, which is one too many.
+const MANY: &str =
+    "object = [{}, {}, {}, {}, {}, {}, {}, {}, {}, {}, {}, {}, {}, {}, {}, {}, {}]\ntask = [{}]\n";
+
+#[test]
+fn tells_the_first_fault(rt: HostRuntime) -> Result<(), Fail> {
+    let alloc = rt.alloc();
+    let words = split(alloc, "run 10")?;
+    // The input, the status, and the line of its fault.
+    for (input, want, line) in [
+        ("task = [{name=\"a", Status::NotToml, "not toml\n"),
+        ("", Status::BadSet, "set 2 field top 0 task\n"),
+        (
+            "task = [{name=\"a\", period=\"10\"}]",
+            Status::BadSet,
+            "set 2 field task 1 period\n",
+        ),
+        (
+            "task = [{name=\"9a\"}]",
+            Status::BadSet,
+            "set 3 name task 1\n",
+        ),
+        (
+            "object = [{name=\"c\", kind=\"cell\"}, {name=\"c\"}]\ntask = [{}]",
+            Status::BadSet,
+            "set 4 repeat object 2\n",
+        ),
+        (
+            "task = [{name=\"a\", period=10, deadline=11}]",
+            Status::BadSet,
+            "set 5 range task 1 deadline\n",
+        ),
+        (
+            "task = [{name=\"a\", period=10, body=[\"work 1\", \"add c\"]}]",
+            Status::BadSet,
+            "set 6 item 1 2\n",
+        ),
+        (
+            "task = [{name=\"a\", period=10, body=[\"work 1\"]}, {name=\"b\", period=10, body=[\"add d 1\"]}]",
+            Status::BadSet,
+            "set 7 unknown 2 1\n",
+        ),
+        (
+            "object = [{name=\"c\", kind=\"cell\"}]\ntask = [{name=\"a\", period=10, body=[\"set c 16777216\"]}]",
+            Status::BadSet,
+            "set 8 misfit 1 1\n",
+        ),
+        (MANY, Status::BadSet, "set 9 many object 17\n"),
+    ] {
+        let bytes = input.as_bytes().to_vec(alloc)?;
+        let mut source = MemorySource::new(bytes, 4096, Vec::new(alloc));
+        let made = MemorySink::new(alloc, 64, 4096, Vec::new(alloc));
+        let mut sink = made.map_err(|_| "no memory")?;
+        let mut left = Left::Nothing;
+        assert_eq!(rt;
+            top(alloc, words.as_slice(), &mut source, &mut sink, &mut left),
+            want
+        );
+        assert_eq!(rt; sink.taken(), line.as_bytes());
+    }
+    Ok(())
+}
+
+/// The text of a set and a comment that fills it up to so many bytes.
+fn filled(alloc: Global, size: usize) -> Result<Vec<u8>, Fail> {
+    let mut bytes = SHARED.as_bytes().to_vec(alloc)?;
+    bytes.push(b'#')?;
+    let rest = vec![in alloc; b'x'; size.saturating_sub(bytes.len())]?;
+    bytes.extend_from_slice(rest.as_slice())?;
+    Ok(bytes)
+}
+
+#[test]
+fn takes_an_input_of_the_most_bytes(rt: HostRuntime) -> Result<(), Fail> {
+    let alloc = rt.alloc();
+    let words = split(alloc, "run 10")?;
+    // How many bytes the input has, the status, and what was taken.
+    for (size, want, taken) in [
+        (1_048_576, Status::Done, RETRIED),
+        (1_048_577, Status::TooLarge, "too large\n"),
+    ] {
+        let mut source = MemorySource::new(filled(alloc, size)?, 65_536, Vec::new(alloc));
+        let made = MemorySink::new(alloc, 4096, 4096, Vec::new(alloc));
+        let mut sink = made.map_err(|_| "no memory")?;
+        let mut left = Left::Nothing;
+        assert_eq!(rt;
+            top(alloc, words.as_slice(), &mut source, &mut sink, &mut left),
+            want
+        );
+        assert_eq!(rt; sink.taken(), taken.as_bytes());
+    }
+    Ok(())
+}
+
+#[test]
+fn leaves_the_rest_of_a_large_input(rt: HostRuntime) -> Result<(), Fail> {
+    let alloc = rt.alloc();
+    let words = split(alloc, "run 10")?;
+    let mut source = MemorySource::new(filled(alloc, 1_048_580)?, 65_536, Vec::new(alloc));
+    let made = MemorySink::new(alloc, 64, 4096, Vec::new(alloc));
+    let mut sink = made.map_err(|_| "no memory")?;
+    let mut left = Left::Nothing;
+    assert_eq!(rt;
+        top(alloc, words.as_slice(), &mut source, &mut sink, &mut left),
+        Status::TooLarge
+    );
+    assert_eq!(rt; sink.taken(), b"too large\n".as_slice());
+    let mut buffer = [0; 8];
+    assert_eq!(rt; source.read(&mut buffer), Ok(3));
     Ok(())
 }
 
@@ -317,6 +476,7 @@ fn leaves_nothing_without_a_report(rt: HostRuntime) -> Result<(), Fail> {
         ("runs 10", SHARED, 0, 0, Status::Words),
         ("run 10", SHARED, 1, 0, Status::ReadFault),
         ("run 10", "", 0, 0, Status::BadSet),
+        ("run 10", "task", 0, 0, Status::NotToml),
         ("run 10", SHARED, 0, 1, Status::WriteFault),
         ("run 10", SHARED, 0, 10, Status::WriteFault),
     ] {

@@ -1,12 +1,13 @@
 //! The top call.
-ghost use Rattle.std.specs.Prelude.{◌≡◌, ◌<◌, ◌≤◌, ◌^◌, [], map, string_bytes, Some, IfOk};
+ghost use Rattle.std.specs.Prelude.{◌≡◌, ◌≢◌, ◌<◌, ◌≤◌, ◌^◌, [], map, string_bytes, Some, IfOk};
+ghost use Rattle.rx_file.specs.declared.faults.FileFault.TheVariants.{NoMemory as OutOfMemory};
 ghost use Rattle.rx_port.specs.Seats.{no_counts};
 ghost use Rattle.rx_tick.specs.Banks.{IsBankOf};
 ghost use Rattle.rx_tick.specs.Executive.{moment};
 ghost use Rattle.std.specs.Option.{ForSome};
 ghost use Rattle.rx_top.specs.declared.left.Left.TheVariants.{Nothing};
 ghost use Rattle.rx_top.specs.Words.{command_of, IsLimited};
-ghost use Rattle.rx_top.specs.Outcome.{Outcome, Headline, Tells, ends, input_answer, run_answer, set_answer};
+ghost use Rattle.rx_top.specs.Outcome.{Outcome, Headline, Tells, ends, input_answer, large_answer, fault_answer, fault_status, run_answer};
 ghost use Rattle.rx_top.specs.Determined.{Determined, Unread};
 
 use crate::left::Left;
@@ -17,6 +18,7 @@ use arrayvec::ArrayVec;
 use rx_file::{FileFault, read_set};
 use rx_io::{Failed, ReadError, Sink, Source, put, read_all};
 use rx_port::Bank;
+use rx_report::{Line, fault_line};
 use rx_seq::NoMemory;
 use rx_set::TaskSet;
 use rx_shape::Layout;
@@ -36,8 +38,11 @@ const MOST_INPUT: usize = 1_048_576;
 /// - `Done` and `Adverse`: the whole report was written, and it tells no miss, or tells one.
 /// - `Words`: exactly where the words have no shape. The line `words` was written, and the source is as it was.
 /// - `ReadFault`: only where the source failed in this call. Nothing was written.
-/// - `BadSet`: exactly where the input is no set of tasks or has more than 1,048,576 bytes, of which 1,048,577 are then
-///   read. The line `set` was written.
+/// - `TooLarge`: exactly where the input has more than 1,048,576 bytes, of which 1,048,577 are then read. The line `too large`
+///   was written.
+/// - `NotToml`: exactly where the input is no TOML document. The line `not toml` was written.
+/// - `BadSet`: exactly where the input is a TOML document and no set of tasks. The line of its first fault was written, as
+///   `rx_report::fault_line` says.
 /// - `WriteFault`: only where the sink failed in this call. A front of what was to be written was taken.
 /// - `NoMemory`: may come for any words that have a shape. Nothing was written.
 ///
@@ -45,11 +50,11 @@ const MOST_INPUT: usize = 1_048_576;
 /// that schedule. At each other status it is `Nothing`, whatever it was before.
 ///
 /// Where the status is another than `ReadFault`, `WriteFault` and `NoMemory`, neither the source nor the sink failed, and
-/// an input that is read and not too large is read to its end. Lines are handed to the sink one at a time, and the rest of a line again
-/// where the sink took less. After a failure no further call of either is made, which no clause says but tests show.
-/// The memory is in proportion to the input, all of it is taken before the first write, and none for words of no shape.
-/// The time is that of reading the file, and for each slot that of `Executive::tick` and of its lines. Wants a count of
-/// faults below 2^63 of the source and of the sink.
+/// an input that is read and not too large is read to its end. Lines are handed to the sink one at a time, and the rest
+/// of a line again where the sink took less. After a failure no further call of either is made, which no clause says but
+/// tests show. It takes memory for the input and its document, for each word of the bank, and for a machine a task, all
+/// of it before the first write, and none for words of no shape. The time is that of reading the file, and for each slot
+/// that of `Executive::tick` and of its lines. Wants a count of faults below 2^63 of the source and of the sink.
 pub fn top<S: Source, K: Sink>(
     alloc: Global,
     words: &[String],
@@ -173,23 +178,48 @@ fn run_input<K: Sink>(
         (K.taken sink.old) (K.taken sink.new) (K.faults sink.old) (K.faults sink.new) left.new result }
 {
     if input.len() > MOST_INPUT {
-        return refuse(sink);
+        return refuse_size(sink);
     }
     match read_set(alloc, input) {
         Ok(set) => run_set(alloc, ticks, &set, sink, left),
         Err(FileFault::NoMemory) => Status::NoMemory,
-        Err(_) => refuse(sink),
+        Err(fault) => refuse_fault(&fault, sink),
     }
 }
 
-/// Says that the input is no set.
-fn refuse<K: Sink>(sink: &mut K) -> Status
+/// Says that the input has too many bytes.
+fn refuse_size<K: Sink>(sink: &mut K) -> Status
     requires { K.faults sink.old < 2 ^ 63 }
-    ensures { Tells set_answer
+    ensures { Tells large_answer
         (K.taken sink.old) (K.taken sink.new) (K.faults sink.old) (K.faults sink.new) Nothing result }
 {
-    match put(sink, b"set\n") {
-        Ok(()) => Status::BadSet,
+    match put(sink, b"too large\n") {
+        Ok(()) => Status::TooLarge,
+        Err(Failed) => Status::WriteFault,
+    }
+}
+
+/// The status of a fault of the input.
+fn fault_status(fault: &FileFault) -> Status
+    ensures { result ≡ fault_status fault.now }
+{
+    match fault {
+        FileFault::NotToml => Status::NotToml,
+        _ => Status::BadSet,
+    }
+}
+
+/// Tells the first fault of the input.
+fn refuse_fault<K: Sink>(fault: &FileFault, sink: &mut K) -> Status
+    requires faults { K.faults sink.old < 2 ^ 63 }
+    requires fault { fault.now ≢ OutOfMemory }
+    ensures { Tells (fault_answer fault.now)
+        (K.taken sink.old) (K.taken sink.new) (K.faults sink.old) (K.faults sink.new) Nothing result }
+{
+    let mut line = Line::new();
+    fault_line(fault, &mut line);
+    match put(sink, line.as_slice()) {
+        Ok(()) => fault_status(fault),
         Err(Failed) => Status::WriteFault,
     }
 }

@@ -1,5 +1,5 @@
 use Rattle.std.proofs.Common.{ℕ, ◌≡◌, ◌≤◌, ◌<◌, ◌+◌, ◌++◌, length}
-use Rattle.rx_tick.specs.declared.events.Event.TheVariants.{Release}
+use Rattle.rx_ledger.specs.declared.events.Event.TheVariants.{Release}
 use Rattle.rx_tick.specs.Schedule.{slots}
 use Rattle.rx_tick.specs.Events.{is_released_at}
 use Rattle.rx_tick.specs.States.{AreBeforeDue, best_of, in_hand, state_at}

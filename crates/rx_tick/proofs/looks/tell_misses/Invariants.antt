@@ -1,5 +1,5 @@
 use Rattle.std.proofs.Common.{◌≡◌, ◌≤◌, ◌+◌, ◌++◌, length}
-use Rattle.rx_tick.specs.declared.events.Event.TheVariants.{Miss}
+use Rattle.rx_ledger.specs.declared.events.Event.TheVariants.{Miss}
 use Rattle.rx_tick.specs.Schedule.{slots}
 use Rattle.rx_tick.specs.Events.{is_missed}
 use Rattle.rx_tick.proofs.Lists.{told_of}

@@ -1,8 +1,8 @@
 use Rattle.std.proofs.Common.{◌∙◌, ◌+◌, ◌∷◌, [], ◌++◌, ℕ, Bool, if◌then◌else◌, List, length, slice_set, ap, sym, refl, arith, subst, append_assoc}
 use Rattle.std.proofs.lemmas.List.{length-set}
 use Rattle.std.proofs.lemmas.Grind.{get_or-set_at}
-use Rattle.rx_tick.specs.declared.events.Event.{Event}
-use Rattle.rx_tick.specs.declared.events.Event.TheVariants.{Finish}
+use Rattle.rx_ledger.specs.declared.events.Event.{Event}
+use Rattle.rx_ledger.specs.declared.events.Event.TheVariants.{Finish}
 use Rattle.rx_tick.specs.declared.states.State.{State}
 use Rattle.rx_tick.specs.Schedule.{slots, slot_at}
 use Rattle.rx_tick.specs.Events.{decision, finish}

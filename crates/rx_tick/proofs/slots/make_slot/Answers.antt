@@ -1,5 +1,5 @@
 use Rattle.std.proofs.Common.{◌∙◌, ◌++◌, ap, List}
-use Rattle.rx_tick.specs.declared.events.Event.{Event}
+use Rattle.rx_ledger.specs.declared.events.Event.{Event}
 use Rattle.rx_tick.specs.declared.turns.Turn.{Turn}
 use Rattle.rx_tick.specs.Events.{releases}
 use Rattle.rx_tick.proofs.Moves.{job_of_slot, last_of_next, all_told}

@@ -1,5 +1,5 @@
 use Rattle.std.proofs.Common.{◌∙◌, ◌+◌, ◌++◌, List, ap, sym}
-use Rattle.rx_tick.specs.declared.events.Event.{Event}
+use Rattle.rx_ledger.specs.declared.events.Event.{Event}
 use Rattle.rx_tick.specs.Schedule.{slots}
 use Rattle.rx_tick.proofs.Prefixes.{slots_count}
 use Rattle.rx_tick.proofs.Told.{append_none}

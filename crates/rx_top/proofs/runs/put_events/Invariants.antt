@@ -1,6 +1,6 @@
 use Rattle.std.proofs.Common.{◌≡◌, fold, take}
 use Rattle.std.specs.Io.KnownBytes.{Appends}
-use Rattle.rx_tick.specs.Counts.{counted}
+use Rattle.rx_ledger.specs.Counts.{counted}
 use Rattle.rx_top.specs.Runs.{lines_of}
 use Rattle.rx_top.proofs.runs.put_events.Given as goal
 

@@ -1,7 +1,7 @@
 use Rattle.std.proofs.Common.{◌≡◌, refl}
 use Rattle.rx_io.proofs.Puts.{puts_after}
 use Rattle.rx_tick.specs.Schedule.{slots}
-use Rattle.rx_report.specs.Report.{run_totals}
+use Rattle.rx_top.specs.Report.{run_totals}
 use Rattle.rx_top.proofs.Counting.{counts_end}
 use Rattle.rx_top.proofs.Writes.{on_ok, puts_first_cut, puts_cut}
 use Rattle.rx_top.proofs.runs.write_end.Goals as goal

@@ -2,7 +2,7 @@ use Rattle.std.proofs.Common.{◌≡◌, ◌∙◌, [], length, refl, ap, sym, a
 use Rattle.std.proofs.lemmas.Bool.{eqb-true}
 use Rattle.std.proofs.lemmas.List.{nil_from_length}
 use Rattle.std.proofs.lemmas.Result.{on_ok_weaker}
-use Rattle.rx_tick.specs.Counts.{with_slot}
+use Rattle.rx_ledger.specs.Counts.{with_slot}
 use Rattle.rx_top.proofs.Counting.{counts_next}
 use Rattle.rx_top.proofs.Lines.{no_lines}
 use Rattle.rx_top.proofs.Writes.{puts_nothing}

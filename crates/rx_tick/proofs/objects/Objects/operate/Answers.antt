@@ -3,8 +3,8 @@ use Rattle.std.proofs.Common.{◌≡◌, ◌<◌, ◌++◌, inl, inr, [], List, 
 use Rattle.rx_seq.specs.Table.{fits_part}
 use Rattle.rx_seq.specs.History.{part_at}
 use Rattle.rx_shape.specs.Layout.{Layout}
+use Rattle.rx_ledger.specs.declared.events.Event.{Event}
 use Rattle.rx_tick.specs.declared.objects.Objects.{Objects}
-use Rattle.rx_tick.specs.declared.events.Event.{Event}
 use Rattle.rx_tick.specs.Events.{decision}
 use Rattle.rx_tick.specs.Schedule.{slots, slot_at}
 use Rattle.rx_tick.proofs.Banks.{exists_here, fits_here, seat_here, steps, tick_going, told_going, tick_idle, told_idle, tick_won, told_won, tick_lost, told_lost, not_spent}

@@ -1,6 +1,6 @@
 // Totals of a run.
 ghost use Rattle.std.specs.Prelude.{◌≡◌, ◌<◌, ◌+◌, ◌^◌, ◌++◌, [], ◌∷◌};
-ghost use Rattle.rx_tick.specs.Counts.{AreBelow, counted, with_slot, zeros};
+ghost use Rattle.rx_ledger.specs.Counts.{AreBelow, counted, with_slot, zeros};
 
 use crate::events::Event;
 
@@ -18,7 +18,7 @@ pub struct Totals {
 }
 
 impl Totals {
-    /// All numbers are 0.
+    /// All numbers are 0. Its cost is constant, as that of `count` and of `slot`.
     pub fn new() -> Totals
         ensures { result ≡ zeros }
     {

@@ -49,7 +49,7 @@ pub enum Event {
 
 impl Default for Event {
     ghost use Rattle.std.specs.Prelude.{◌≡◌};
-    ghost use Rattle.rx_tick.specs.declared.events.Event.TheVariants.{Miss};
+    ghost use Rattle.rx_ledger.specs.declared.events.Event.TheVariants.{Miss};
 
     ghost is_default = { λ event. event ≡ Miss 0 (record { task = 0; number = 0 }) };
 

@@ -4,8 +4,8 @@ use Rattle.std.specs.List.{flat_map}
 use Rattle.rx_seq.specs.declared.entries.Entry.{Entry}
 use Rattle.rx_seq.specs.History.{replay, tag_of}
 use Rattle.rx_set.specs.System.{System, parts_of, numbers}
-use Rattle.rx_tick.specs.declared.events.Event.{Event}
-use Rattle.rx_tick.specs.declared.totals.Totals.{Totals}
+use Rattle.rx_ledger.specs.declared.events.Event.{Event}
+use Rattle.rx_ledger.specs.declared.totals.Totals.{Totals}
 use Rattle.rx_tick.specs.Schedule.{history, slots}
 use Rattle.rx_tick.specs.Events.{events, misses}
 use Rattle.rx_tick.specs.Counts.{totals_of}
