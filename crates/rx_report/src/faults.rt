@@ -116,7 +116,7 @@ fn push_fault(line: &mut Line, fault: &FileFault)
 
 /// Makes `out` the line of a fault of a task file, with its line feed. What stood in `out` is gone. `S` is the word of the
 /// section, `top`, `object`, `task` or `demand`, and `LABEL` that of the key that it is about, `whole` for the row itself and
-/// `other` for a key without a meaning; rows, tasks and items are numbered from 1, and the keys at the top are row 0:
+/// `other` for a key without a meaning; rows, tasks and items are numbered from 1, and 0 stands for the keys at the top:
 ///
 /// - `not toml`,
 /// - `set 2 field S ROW LABEL`, `set 3 name S ROW`, `set 4 repeat S ROW` and `set 5 range S ROW LABEL`,

@@ -32,14 +32,14 @@ const MOST_INPUT: usize = 1_048_576;
 /// tells to `sink`.
 ///
 /// `run N` reads a task file, in the form that `rx_file::read_set` says, and writes the report of its schedule: the
-/// events of the slots 0 to N - 1, the misses at time N, a line for each object, and the line of the totals. N is a word of 1 to 20 ASCII
-/// digits, leading zeros allowed, and at most 1,000,000. All other words have no shape.
+/// events of the slots 0 to N - 1, the misses at time N, a line for each object, and the line of the totals. N is a word
+/// of 1 to 20 ASCII digits, leading zeros allowed, and at most 1,000,000. All other words have no shape.
 ///
 /// - `Done` and `Adverse`: the whole report was written, and it tells no miss, or tells one.
 /// - `Words`: exactly where the words have no shape. The line `words` was written, and the source is as it was.
 /// - `ReadFault`: only where the source failed in this call. Nothing was written.
-/// - `TooLarge`: exactly where the input has more than 1,048,576 bytes, of which 1,048,577 are then read. The line `too large`
-///   was written.
+/// - `TooLarge`: exactly where the input has more than 1,048,576 bytes, of which 1,048,577 are then read. The line
+///   `too large` was written.
 /// - `NotToml`: exactly where the input is no TOML document. The line `not toml` was written.
 /// - `BadSet`: exactly where the input is a TOML document and no set of tasks. The line of its first fault was written, as
 ///   `rx_report::fault_line` says.
