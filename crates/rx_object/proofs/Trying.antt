@@ -106,10 +106,10 @@ module _ (l : Layout) (stood stands : Core → Type 0) where
       }
 
   -- the exchange found the expected root
-  pub done_from : (object : ℕ) (call : Call) (before v w : View) (a : Attempt) (new found : ℕ) (pairs : List Pair) (reply : Reply) (tag : ℕ) (h : Opened l object before v a.expected)
+  pub done_from : (object : ℕ) (call : Call) (before v w : View) (a : Attempt) (new found : ℕ) (pairs : List Pair) (reply : Reply) (tag : ℕ) (h : Opened l object before v a.expected) → tag_of a.expected + 1 < 2 ^ 40
       → (e : Decided l stood stands v w a new pairs found) → a.object ≡ object → a.call ≡ call → found ≡ a.expected
       → reply ≡ (entry_for l e.history v.number object call).reply → tag ≡ (entry_for l e.history v.number object call).tag → IsDone l before w object call reply tag 0
-  done_from object call before v w a new found pairs reply tag h e on asked same reply_is tag_is =
+  done_from object call before v w a new found pairs reply tag h room e on asked same reply_is tag_is =
       let g = grown_from object before v a.expected h e.core e.history e.found in
       let entry : List Entry → Entry = λ es. entry_for l es before.number object call in
       let won : (found == a.expected) ≡ true = eq-eqb found a.expected same in
@@ -141,15 +141,16 @@ module _ (l : Layout) (stood stands : Core → Type 0) where
         exchanges = omega arith;
         root = a.expected;
         latest = ap (λ (n : ℕ). Some (exchange n a.expected found)) on ∙ ap (λ (n : ℕ). Some (exchange object a.expected n)) same;
+        room = room;
         closed = ap (λ (y : View). y.attempt) e.view_is;
         number = ap (λ (y : View). y.number) e.view_is ∙ h.number;
       }
 
   -- it found another one
-  pub lost_from : (object : ℕ) (before v w : View) (a : Attempt) (new found : ℕ) (pairs : List Pair) (h : Opened l object before v a.expected)
+  pub lost_from : (object : ℕ) (before v w : View) (a : Attempt) (new found : ℕ) (pairs : List Pair) (h : Opened l object before v a.expected) → tag_of a.expected + 1 < 2 ^ 40
       → (e : Decided l stood stands v w a new pairs found) → a.object ≡ object → object < length l.parts → found ≢ a.expected → tag_of a.expected < tag_of found → tag_of found ≡ tag_after l e.history object
       → IsLost l before w object a.expected found
-  lost_from object before v w a new found pairs h e on there apart higher tag =
+  lost_from object before v w a new found pairs h room e on there apart higher tag =
       let g = grown_from object before v a.expected h e.core e.history e.found in
       let lose : (found == a.expected) ≡ false = ne_eqb found a.expected apart in
       let x : Entry = entry_for l e.history v.number a.object a.call in
@@ -181,6 +182,7 @@ module _ (l : Layout) (stood stands : Core → Type 0) where
         legal = e.found.lawful.legal;
         below = e.found.lawful.below object there;
         latest = ap (λ (n : ℕ). Some (exchange n a.expected found)) on;
+        room = room;
         apart = apart;
         closed = ap (λ (y : View). y.attempt) e.view_is;
       }
@@ -214,28 +216,28 @@ spent_from l object call before w root tag h opened is last = record {
 -- between the steps of an attempt: nothing has happened yet, or it was begun
 abbrev pub IsInAttempt : Layout → ℕ → View → View → Option Progress → Type 0
 IsInAttempt layout object before now None = now ≡ before
-IsInAttempt layout object before now (Some progress) = Opened layout object before now progress.expected
+IsInAttempt layout object before now (Some progress) = Opened layout object before now progress.expected × (tag_of progress.expected + 1 < 2 ^ 40)
 
 module _ (l : Layout) (stood stands : Core → Type 0) (before v w : View) (old new : Operation) where
   loads_on : Loads l stood stands v w old new → IsInAttempt l old.object before v old.progress → Keeps before → old.object < length l.parts → IsInAttempt l old.object before w new.progress
   loads_on s h keeps there =
       let same : v ≡ before = rw (s.first) at h in
       let e : Begun l stood stands before w old.object old.call s.root = subst (λ (x : View). Begun l stood stands x w old.object old.call s.root) same s.event in
-      subst (IsInAttempt l old.object before w) (sym (ap (λ (m : Operation). m.progress) s.next)) (opened_from l stood stands before w old.object old.call s.root there keeps e)
+      subst (IsInAttempt l old.object before w) (sym (ap (λ (m : Operation). m.progress) s.next)) (opened_from l stood stands before w old.object old.call s.root there keeps e, s.more)
 
   reads_on : Reads l stood stands v w old new → IsInAttempt l old.object before v old.progress → IsInAttempt l old.object before w new.progress
   reads_on s h =
-      let o : Opened l old.object before v s.progress.expected = rw (s.amid.is) at h in
+      let o : Opened l old.object before v s.progress.expected × (tag_of s.progress.expected + 1 < 2 ^ 40) = rw (s.amid.is) at h in
       let i = s.event.view_is in
       subst (IsInAttempt l old.object before w) (sym (ap (λ (m : Operation). m.progress) s.next))
-      (opened_kept l stood stands old.object before v w s.progress.expected o (ap (λ (x : View). x.known) i) (ap (λ (x : View). x.own) i) (ap (λ (x : View). x.number) i))
+      (opened_kept l stood stands old.object before v w s.progress.expected o.0 (ap (λ (x : View). x.known) i) (ap (λ (x : View). x.own) i) (ap (λ (x : View). x.number) i), o.1)
 
   writes_on : Writes l stood stands v w old new → IsInAttempt l old.object before v old.progress → IsInAttempt l old.object before w new.progress
   writes_on s h =
-      let o : Opened l old.object before v s.progress.expected = rw (s.amid.is) at h in
+      let o : Opened l old.object before v s.progress.expected × (tag_of s.progress.expected + 1 < 2 ^ 40) = rw (s.amid.is) at h in
       let i = s.event.view_is in
       subst (IsInAttempt l old.object before w) (sym (ap (λ (m : Operation). m.progress) s.next))
-      (opened_kept l stood stands old.object before v w s.progress.expected o (ap (λ (x : View). x.known) i) (ap (λ (x : View). x.own) i) (ap (λ (x : View). x.number) i))
+      (opened_kept l stood stands old.object before v w s.progress.expected o.0 (ap (λ (x : View). x.known) i) (ap (λ (x : View). x.own) i) (ap (λ (x : View). x.number) i), o.1)
 
   -- a step that makes an event and goes on
   pub going_on : Loads l stood stands v w old new ⊎ (Reads l stood stands v w old new ⊎ Writes l stood stands v w old new)
@@ -256,15 +258,15 @@ module _ (l : Layout) (stood stands : Core → Type 0) (before v w : View) (old 
   -- the last step
   pub won_so : (reply : Reply) (tag : ℕ) → Wins l stood stands v w old new reply tag → IsInAttempt l old.object before v old.progress → IsDone l before w old.object old.call reply tag 0
   won_so reply tag s h =
-      let o : Opened l old.object before v s.decides.progress.expected = rw (s.decides.is) at h in
-      done_from l stood stands old.object old.call before v w (attempt_for old s.decides.progress) s.decides.root s.found s.decides.pairs reply tag o s.decides.event refl refl s.same s.reply_is s.tag_is
+      let o : Opened l old.object before v s.decides.progress.expected × (tag_of s.decides.progress.expected + 1 < 2 ^ 40) = rw (s.decides.is) at h in
+      done_from l stood stands old.object old.call before v w (attempt_for old s.decides.progress) s.decides.root s.found s.decides.pairs reply tag o.0 o.1 s.decides.event refl refl s.same s.reply_is s.tag_is
 
   pub lost_so : (expected found : ℕ) → Loses l stood stands v w old new expected found → IsInAttempt l old.object before v old.progress → old.object < length l.parts → IsLost l before w old.object expected found
   lost_so expected found s h there =
-      let o : Opened l old.object before v s.decides.progress.expected = rw (s.decides.is) at h in
+      let o : Opened l old.object before v s.decides.progress.expected × (tag_of s.decides.progress.expected + 1 < 2 ^ 40) = rw (s.decides.is) at h in
       let is = s.expected_is in
       subst (λ (n : ℕ). IsLost l before w old.object n found) (sym is)
-      (lost_from l stood stands old.object before v w (attempt_for old s.decides.progress) s.decides.root found s.decides.pairs o s.decides.event refl there
+      (lost_from l stood stands old.object before v w (attempt_for old s.decides.progress) s.decides.root found s.decides.pairs o.0 o.1 s.decides.event refl there
       (subst (λ (n : ℕ). found ≢ n) is s.apart) (subst (λ (n : ℕ). tag_of n < tag_of found) is s.higher) s.tag_is)
 
   pub spent_so : (tag : ℕ) → Spends l stood stands v w old new tag → IsInAttempt l old.object before v old.progress → Keeps before → old.object < length l.parts → IsSpent l before w old.object old.call tag 0

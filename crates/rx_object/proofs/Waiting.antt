@@ -107,6 +107,7 @@ module _ (l : Layout) (before middle now : View) (object lost : ℕ) (w : HasWai
         exchanges = let a = h.exchanges in let b = w.exchanges in omega arith;
         root = h.root;
         latest = h.latest;
+        room = h.room;
         closed = h.closed;
         number = h.number ∙ w.number;
       }

@@ -21,7 +21,8 @@ exchange object expected found = record { object = object; expected = expected; 
 
 module _ (layout : Layout) (before now : View) (object : ℕ) where
   -- the call was made after so many lost attempts. What the seat has seen is legal: it begins with what it had seen, goes
-  -- on with entries of other seats, at least one on the object for each lost attempt, and ends with the entry of this call
+  -- on with entries of other seats, at least one on the object for each lost attempt, and ends with the entry of this call.
+  -- The root that was loaded did not have the last tag
   pub record IsDone (call : Call) (reply : Reply) (tag lost : ℕ) : Type 0 where
     pub known : Known
     pub is : before.known ≡ Some known
@@ -41,6 +42,7 @@ module _ (layout : Layout) (before now : View) (object : ℕ) where
     pub exchanges : after.exchanges ≡ known.exchanges + lost + 1
     pub root : ℕ
     pub latest : after.latest ≡ Some (exchange object root root)
+    pub room : tag_of root + 1 < 2 ^ 40
     pub closed : now.attempt ≡ None
     pub number : now.number ≡ before.number
 
@@ -63,12 +65,14 @@ module _ (layout : Layout) (before now : View) (object : ℕ) where
     pub own : now.own ≡ before.own
     pub number : now.number ≡ before.number
 
-  -- the exchange found another root than the attempt expected, and the seat has its own places and entries as before
+  -- the exchange found another root than the attempt expected, which did not have the last tag, and the seat has its own
+  -- places and entries as before
   pub record IsLost (expected found : ℕ) : Type 0 where
     pub waited : HasWaited 1
     pub legal : IsLegal layout.parts layout.first waited.after.seen
     pub below : tag_after layout waited.after.seen object < 2 ^ 40
     pub latest : waited.after.latest ≡ Some (exchange object expected found)
+    pub room : tag_of expected + 1 < 2 ^ 40
     pub apart : found ≢ expected
     pub closed : now.attempt ≡ None
 
