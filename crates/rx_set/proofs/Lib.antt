@@ -8,3 +8,6 @@ pub mod Readings
 pub mod Kept
 pub mod Draws
 pub mod ValidSets
+pub mod Totals
+pub mod Firsts
+pub mod LeastTimes

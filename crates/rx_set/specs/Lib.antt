@@ -4,5 +4,7 @@ pub mod Valid
 pub mod View
 pub mod Orders
 pub mod Ranked
+pub mod Admission
 pub mod Generator
 pub mod Rows
+pub mod AdmissionRows

@@ -5,7 +5,8 @@ ghost use Rattle.rx_set.specs.declared.jobs.Key.{Key};
 ghost use Rattle.rx_set.specs.Generator.{generated};
 ghost use Rattle.rx_set.specs.System.{System, key, is_ahead, is_below, rank, release, task_at};
 ghost use Rattle.rx_set.specs.Valid.{IsValid, KeepsCosts};
-ghost use Rattle.std.specs.Prelude.{ℕ, ◌≡◌, ◌≢◌, ◌≤◌, ◌<◌, ◌+◌, ◌*◌, ◌↔◌, ◌⊎◌, length, true, false};
+ghost use Rattle.rx_set.specs.Admission.{EachIsServed, Serves, least_time, ranked_task, unserved};
+ghost use Rattle.std.specs.Prelude.{ℕ, ◌≡◌, ◌≢◌, ◌≤◌, ◌<◌, ◌+◌, ◌*◌, ◌↔◌, ◌⊎◌, length, Some, None, true, false};
 
 /// Ranks are the places of the tasks in their order: different tasks have different ranks, these are the numbers from
 /// 1 to the number of tasks, and a task has a lower rank exactly if it comes before the other.
@@ -14,6 +15,18 @@ pub fn ranks_are_places()
     ensures apart { (system : System) (a b : ℕ) → a < length system.tasks → b < length system.tasks → rank system a ≡ rank system b → a ≡ b }
     ensures each { (system : System) (place : ℕ) → 1 ≤ place → place ≤ length system.tasks → (task : ℕ) × (task < length system.tasks) × (rank system task ≡ place) }
     ensures order { (system : System) (a b : ℕ) → a < length system.tasks → b < length system.tasks → (rank system a < rank system b) ↔ (is_ahead system b a ≡ true) }
+    ensures named { (system : System) (task place : ℕ) → task < length system.tasks → rank system task ≡ place → ranked_task system place ≡ task }
+{}
+
+/// The least time of a rank is the least t that serves its task, and there is none exactly where no t serves it. No rank
+/// is unserved exactly where the test for fixed priorities holds, and the one that is told is the least.
+pub fn least_times_serve()
+    ensures some { (system : System) (task t : ℕ) → task < length system.tasks → least_time system (rank system task) ≡ Some t → Serves system task t × ((u : ℕ) → Serves system task u → t ≤ u) }
+    ensures none { (system : System) (task : ℕ) → task < length system.tasks → least_time system (rank system task) ≡ None → (t : ℕ) → ¬ Serves system task t }
+    ensures test { (system : System) → (unserved system ≡ None) ↔ EachIsServed system }
+    ensures first { (system : System) (task : ℕ) → task < length system.tasks → unserved system ≡ Some (rank system task) → (t : ℕ) → ¬ Serves system task t }
+    ensures before { (system : System) (task place : ℕ) → task < length system.tasks → unserved system ≡ Some place → rank system task < place → (t : ℕ) × Serves system task t }
+    ensures known { (system : System) (place : ℕ) → unserved system ≡ Some place → (1 ≤ place) × (place ≤ length system.tasks) }
 {}
 
 /// Keys are in a strict order, in which any two different keys can be compared.
