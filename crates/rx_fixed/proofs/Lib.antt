@@ -1,0 +1,4 @@
+pub mod Grows
+pub mod Rows
+pub mod Leasts
+pub mod Served
