@@ -1,0 +1,4 @@
+pub mod Shares
+pub mod Trees
+pub mod Verdicts
+pub mod Rows

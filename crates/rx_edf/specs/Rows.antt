@@ -1,0 +1,82 @@
+-- Worked rows of the test for earliest deadlines first.
+use Rattle.std.specs.Prelude.{ℕ, ◌≡◌, refl, List, [], ◌∷◌, codes}
+use Rattle.rx_seq.specs.declared.kinds.Kind.TheVariants.{Cell}
+use Rattle.rx_seq.specs.declared.calls.Call.TheVariants.{Add}
+use Rattle.rx_set.specs.declared.policies.Policy.TheVariants.{Edf}
+use Rattle.rx_set.specs.declared.items.Item.{Item}
+use Rattle.rx_set.specs.declared.items.Item.TheVariants.{Work, Op}
+use Rattle.rx_set.specs.System.{System, TaskRow}
+use Rattle.rx_edf.specs.declared.verdicts.EdfVerdict.TheVariants.{Yes, No}
+use Rattle.rx_edf.specs.Shares.{shares_of, common, cycle_of, work_of, slack_of, points_to}
+use Rattle.rx_edf.specs.Verdicts.{last_point, verdict_of}
+
+abbrev task : ℕ → ℕ → List Item → TaskRow
+task period deadline items = record { name = codes "t"; period = period; deadline = deadline; offset = 0; items = items }
+
+abbrev system : List TaskRow → System
+system tasks = record {
+  policy = Edf;
+  objects = record { name = codes "c"; part = record { kind = Cell; cap = 1 } } ∷ [];
+  tasks = tasks;
+  demands = [];
+}
+
+-- the least common multiple of two numbers, also where one divides the other
+pub multiple_of_both : common 12 20 ≡ 60
+multiple_of_both = refl
+
+pub multiple_of_one : common 12 4 ≡ 12
+multiple_of_one = refl
+
+-- two tasks whose shares are three quarters: in 3 ticks 4 are due
+abbrev crowded : System
+crowded = system (task 4 2 (Work 2 ∷ []) ∷ task 8 3 (Work 2 ∷ []) ∷ [])
+
+pub cycle_of_crowded : cycle_of (shares_of crowded) ≡ 8
+cycle_of_crowded = refl
+
+pub work_of_crowded : work_of (shares_of crowded) 8 ≡ 6
+work_of_crowded = refl
+
+pub slack_of_crowded : slack_of (shares_of crowded) 8 ≡ 18
+slack_of_crowded = refl
+
+pub last_of_crowded : last_point (shares_of crowded) ≡ 8
+last_of_crowded = refl
+
+pub points_of_crowded : points_to (shares_of crowded) 8 ≡ 3
+points_of_crowded = refl
+
+pub crowded_fails : verdict_of crowded ≡ No 3 4
+crowded_fails = refl
+
+-- an attempt and its retry take all of 4 ticks
+pub one_adds : verdict_of (system (task 4 4 (Op 0 (Add 1) ∷ []) ∷ [])) ≡ Yes
+one_adds = refl
+
+-- and one tick more in 20 is too much
+pub one_tick_more : verdict_of (system (task 4 4 (Op 0 (Add 1) ∷ []) ∷ task 20 20 (Work 1 ∷ []) ∷ [])) ≡ No 20 23
+one_tick_more = refl
+
+-- a task that adds, and one that works and adds: no time up to 5 has to fit anything
+abbrev roomy : System
+roomy = system (task 20 6 (Op 0 (Add 1) ∷ []) ∷ task 20 20 (Work 2 ∷ Op 0 (Add 1) ∷ []) ∷ [])
+
+pub slack_of_roomy : slack_of (shares_of roomy) 20 ≡ 56
+slack_of_roomy = refl
+
+pub last_of_roomy : last_point (shares_of roomy) ≡ 5
+last_of_roomy = refl
+
+pub points_of_roomy : points_to (shares_of roomy) 5 ≡ 0
+points_of_roomy = refl
+
+pub roomy_fits : verdict_of roomy ≡ Yes
+roomy_fits = refl
+
+-- no tick is spare, so that the whole cycle is looked at
+pub nothing_spare : last_point (shares_of (system (task 2 1 (Work 1 ∷ []) ∷ task 4 4 (Work 2 ∷ []) ∷ []))) ≡ 4
+nothing_spare = refl
+
+pub just_fits : verdict_of (system (task 2 1 (Work 1 ∷ []) ∷ task 4 4 (Work 2 ∷ []) ∷ [])) ≡ Yes
+just_fits = refl

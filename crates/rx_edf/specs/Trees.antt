@@ -1,0 +1,12 @@
+-- A tree of keys: place 1 is its root, places 32 to 63 are its leaves, and each inner place has the lesser of the two below it.
+use Rattle.std.specs.Prelude.{ℕ, ◌+◌, ◌*◌, ◌≡◌, ◌≤◌, ◌<◌, List, length, get_or, min}
+
+abbrev pub key_at : List ℕ → ℕ → ℕ
+key_at tree place = get_or tree place 0
+
+abbrev pub IsLesser : List ℕ → ℕ → Type 0
+IsLesser tree place = key_at tree place ≡ min (key_at tree (2 * place)) (key_at tree (2 * place + 1))
+
+pub record IsTree (tree : List ℕ) : Type 0 where
+  pub whole : length tree ≡ 64
+  pub lesser : (place : ℕ) → 1 ≤ place → place < 32 → IsLesser tree place

@@ -1,0 +1,15 @@
+//! The test for earliest deadlines first: whether what is released and due in t ticks fits into them, for each t, where each
+//! job is charged with one retry that it can cause. The definitions are `specs/Verdicts.antt`.
+#![tactic(auto)]
+
+mod cycles;
+pub mod laws;
+mod shares;
+mod sums;
+#[cfg(test)]
+mod tests;
+mod trees;
+mod verdicts;
+mod walks;
+
+pub use verdicts::{EdfVerdict, test};

@@ -1,0 +1,42 @@
+// A walk over the times at which jobs are due, in rising order.
+ghost use Rattle.std.specs.Prelude.{◌≡◌, ◌≤◌, ◌<◌, ◌+◌, ◌-◌, ◌*◌, ◌^◌, ℕ, length, nat_lt};
+ghost use Rattle.rx_set.specs.Admission.{first_to};
+ghost use Rattle.rx_edf.specs.Shares.{AreShares, share_at, need_in};
+ghost use Rattle.rx_edf.specs.Trees.{IsTree, key_at};
+
+use crate::shares::Share;
+use crate::trees::{Tree, put_key};
+
+/// A tree with the first time of each task: a key is 32 times a time, and the number of the task.
+fn start(shares: &[Share]) -> Tree
+    requires { AreShares shares.now }
+    ensures tree { IsTree result }
+    ensures keys { (place : ℕ) → place < length shares.now → key_at result (32 + place) ≡ 32 * (share_at shares.now place).deadline + place }
+    ensures rest { (place : ℕ) → length shares.now ≤ place → place < 32 → key_at result (32 + place) ≡ 2 ^ 64 - 1 }
+{
+    let mut tree = [u64::MAX; 64];
+    for place in 0..shares.len() {
+        put_key(&mut tree, place, 32 * shares[place].deadline + place as u64);
+    }
+    tree
+}
+
+/// The least time of at most `last` ticks in which more is due than fits.
+pub fn first_failure(shares: &[Share], last: u64) -> Option<u64>
+    requires shares { AreShares shares.now }
+    requires near { last < 2 ^ 40 }
+    ensures { result ≡ first_to (λ t. nat_lt t (need_in shares.now t)) last }
+{
+    let mut tree = start(shares);
+    let mut need = 0;
+    while tree[1] / 32 <= last {
+        let key = tree[1];
+        let share = shares[(key % 32) as usize];
+        need += share.cost;
+        if need > key / 32 {
+            return Some(key / 32);
+        }
+        put_key(&mut tree, (key % 32) as usize, key + 32 * share.period);
+    }
+    None
+}
