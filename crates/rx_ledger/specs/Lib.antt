@@ -1,2 +1,4 @@
 pub mod Counts
+pub mod Intervals
+pub mod Ledgers
 pub mod Rows

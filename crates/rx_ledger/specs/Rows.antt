@@ -4,7 +4,7 @@ use Rattle.rx_seq.specs.declared.replies.Reply.TheVariants.{Empty}
 use Rattle.rx_set.specs.declared.jobs.Job.{Job}
 use Rattle.rx_ledger.specs.declared.events.Event.TheVariants.{Miss, Release, Preempt, Reply, Retry, Finish}
 use Rattle.rx_ledger.specs.declared.totals.Totals.{Totals}
-use Rattle.rx_ledger.specs.Counts.{counted, with_slot, zeros}
+use Rattle.rx_ledger.specs.Counts.{counted, zeros}
 
 abbrev first : Job
 first = record { task = 0; number = 1 }

@@ -1,4 +1,6 @@
 // Events of a schedule.
+ghost use Rattle.std.specs.Prelude.{◌≡◌};
+ghost use Rattle.rx_ledger.specs.Ledgers.{time_of};
 
 use rx_seq::Reply;
 use rx_set::Job;
@@ -45,6 +47,22 @@ pub enum Event {
         at: u64,
         job: Job,
     },
+}
+
+impl Event {
+    /// Its slot or its time: for a reply and a retry the last slot of the attempt. Its cost is constant.
+    pub fn at(&self) -> u64
+        ensures { result ≡ time_of self.now }
+    {
+        match self {
+            Event::Miss { at, .. } => *at,
+            Event::Release { at, .. } => *at,
+            Event::Preempt { at, .. } => *at,
+            Event::Reply { at, .. } => *at,
+            Event::Retry { at, .. } => *at,
+            Event::Finish { at, .. } => *at,
+        }
+    }
 }
 
 impl Default for Event {

@@ -2,9 +2,11 @@
 #![tactic(auto)]
 
 mod events;
+mod ledgers;
 #[cfg(test)]
 mod tests;
 mod totals;
 
 pub use events::Event;
+pub use ledgers::Ledger;
 pub use totals::Totals;
