@@ -1,0 +1,6 @@
+pub mod Filters
+pub mod Projections
+pub mod Steps
+pub mod Whole
+pub mod Courses
+pub mod Samples

@@ -1,0 +1,9 @@
+use Rattle.std.proofs.Common.{length, reverse, arith}
+use Rattle.rx_merge.specs.Merged.{ready_of, lists_of}
+use Rattle.rx_merge.proofs.Courses.{length_lists, first_found}
+use Rattle.rx_merge.proofs.course.Course.next_entry.Goals as goal
+
+pub returns-in-Some : goal.returns-in-Some
+returns-in-Some c =
+    let entry_at = ready_of (lists_of c.args.lists.now) (reverse c.args.self.now.order.items) in
+    first_found entry_at (length (lists_of c.args.lists.now)) c.loop-caller.caller c.in-Some.entry (omega (arith, length_lists c.args.lists.now)) c.loop-caller.invariant c.in-Some.ensures

@@ -1,0 +1,3 @@
+pub mod Merged
+pub mod Course
+pub mod Rows

@@ -1,0 +1,42 @@
+// The merged order of the entries of several callers.
+ghost use Rattle.rx_merge.specs.Merged.{AreOf, count_of, lists_of, merged};
+ghost use Rattle.rx_seq.specs.declared.entries.Entry.{Entry as AnEntry};
+ghost use Rattle.rx_seq.specs.declared.kinds.Part.{Part};
+ghost use Rattle.std.specs.Prelude.{◌≡◌, IfOk, IfSome, List, reverse};
+
+use crate::course::{Course, begin};
+use rx_seq::{Entry, NoMemory};
+use std::alloc::Global;
+
+/// How many entries there are, if so many can be counted. Its cost grows with the number of lists.
+fn count_entries(lists: &[Vec<Entry>]) -> Option<usize>
+    ensures { IfSome result (λ count. count ≡ count_of (lists_of lists.now)) }
+{
+    let mut count: usize = 0;
+    for list in lists {
+        count = count.checked_add(list.len())?;
+    }
+    Some(count)
+}
+
+/// One order of the entries of callers 0, 1 and so on, of which each list has one caller's, oldest first: step by step,
+/// the next entry of the smallest caller whose next entry has the next tag of its object. The lists are those of one
+/// legal history on so many objects whose tags begin at 0. The order, oldest first, has all their entries, and is a
+/// legal history itself. It refuses want of memory alone, which it takes before the first step: for each entry, for
+/// each caller and for each object. Its cost grows with the number of entries times the number of callers, and with the
+/// number of objects.
+pub fn merge(alloc: Global, objects: u32, lists: &[Vec<Entry>]) -> Result<Vec<Entry>, NoMemory>
+    requires { (parts : List Part) × (history : List AnEntry) × AreOf parts objects (lists_of lists.now) history }
+    ensures order { IfOk result (λ order. order.items ≡ reverse (merged (lists_of lists.now))) }
+{
+    let count = match count_entries(lists) {
+        Some(count) => count,
+        None => return Err(NoMemory),
+    };
+    let mut course = begin(alloc, count, lists.len(), objects as usize)?;
+    for _ in 0..count {
+        let entry = course.next_entry(lists);
+        course.take(entry);
+    }
+    Ok(course.into_order())
+}
