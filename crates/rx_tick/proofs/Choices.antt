@@ -17,7 +17,7 @@ use Rattle.rx_tick.specs.Laws.{who, IsPendingAt, IsLeastAt}
 use Rattle.rx_tick.proofs.Lists.{some_same, none_not}
 use Rattle.rx_tick.proofs.Prefixes.{slots_count}
 
-abbrev In : {X : Type 0} → X → List X → Type 0
+abbrev pub In : {X : Type 0} → X → List X → Type 0
 In x [] = ⊥
 In x (y ∷ ys) = (y ≡ x) ⊎ In x ys
 
@@ -29,7 +29,7 @@ in_right : {X : Type 0} (x : X) (ys zs : List X) → In x zs → In x (ys ++ zs)
 in_right x [] zs h = h
 in_right x (y ∷ ys) zs h = inr (in_right x ys zs h)
 
-in_filter : {X : Type 0} (p : X → Bool) (x : X) (ys : List X) → p x ≡ true → In x ys → In x (filter p ys)
+pub in_filter : {X : Type 0} (p : X → Bool) (x : X) (ys : List X) → p x ≡ true → In x ys → In x (filter p ys)
 in_filter p x [] passes h = h
 in_filter p x (y ∷ ys) passes h = elim h [
   | inl here ↦ subst (λ (b : Bool). In x (cond b (y ∷ filter p ys) (filter p ys))) (sym (ap p here ∙ passes)) (inl here)
@@ -65,7 +65,7 @@ in_flat f job task (t ∷ ts) h i = elim h [
 ]
 
 -- each job that is released by n is among those that are looked at
-in_all : (system : System) (n : ℕ) (job : Job) → IsValid system → IsJobOf system job → release system job ≤ n → In job (all_jobs system n)
+pub in_all : (system : System) (n : ℕ) (job : Job) → IsValid system → IsJobOf system job → release system job ≤ n → In job (all_jobs system n)
 in_all system n job valid known h =
     in_flat (λ (task : ℕ). jobs_of task (n + 1)) job job.task (numbers (length system.tasks))
     (in_numbers job.task (length system.tasks) known.task)
@@ -124,14 +124,14 @@ least_from system P found (j ∷ js) known all = least_from system P (sooner sys
     one (Some best) before = by_test (is_below (key system j) (key system best)) best before
 
 -- a job that is looked at
-abbrev IsOf : ℕ → Job → Type 0
+abbrev pub IsOf : ℕ → Job → Type 0
 IsOf tasks job = (job.task < tasks) × (1 ≤ job.number)
 
 jobs_known : (tasks task n : ℕ) → task < tasks → All (IsOf tasks) (jobs_of task n)
 jobs_known tasks task zero known = All-nil (IsOf tasks)
 jobs_known tasks task (suc n) known = All-push (IsOf tasks) (jobs_of task n) (record { task = task; number = suc n }) (jobs_known tasks task n known) (known, omega arith)
 
-all_known : (tasks n m : ℕ) → m ≤ tasks → All (IsOf tasks) (flat_map (λ (task : ℕ). jobs_of task n) (numbers m))
+pub all_known : (tasks n m : ℕ) → m ≤ tasks → All (IsOf tasks) (flat_map (λ (task : ℕ). jobs_of task n) (numbers m))
 all_known tasks n zero h = All-nil (IsOf tasks)
 all_known tasks n (suc m) h =
     let before = flat_map (λ (task : ℕ). jobs_of task n) (numbers m) in

@@ -163,7 +163,7 @@ differ job by h = by_test (same job by) refl
     by_test true e = absurd (h (same_is job by e))
     by_test false e = e
 
-told_here : (system : System) (n : ℕ) (job by : Job) → who system n ≡ Some job → finished_before system job (suc n) ≡ false → who system (suc n) ≡ Some by → job ≢ by
+pub told_here : (system : System) (n : ℕ) (job by : Job) → who system n ≡ Some job → finished_before system job (suc n) ≡ false → who system (suc n) ≡ Some by → job ≢ by
     → preemption system (slots system (suc n)) (slot_at system (suc n)) ≡ Preempt (suc n) job by ∷ []
 told_here system n job by had unfinished has other =
     let past : List Slot = slots system (suc n) in

@@ -7,4 +7,8 @@ pub mod Banks
 pub mod Executive
 pub mod Rows
 pub mod Laws
+pub mod Charges
+pub mod Windows
+pub mod Admitted
 pub mod LawRows
+pub mod ChargeRows

@@ -116,7 +116,7 @@ pub by_deadline_events : events by_deadline 6 ≡
 by_deadline_events = refl
 
 -- two releases at one tick, and two attempts that one retry of a third has to yield to
-abbrev two_releases : System
+abbrev pub two_releases : System
 two_releases = record {
   policy = Rm;
   objects = cell ∷ [];

@@ -1,20 +1,28 @@
 // The executive.
-ghost use Rattle.std.specs.Prelude.{◌≡◌, ◌<◌, ◌+◌, ◌^◌, IfOk, Some, None, []};
+ghost use Rattle.std.specs.Prelude.{ℕ, ◌≡◌, ◌≢◌, ◌≤◌, ◌<◌, ◌+◌, ◌^◌, count_by, IfOk, Some, None, []};
+ghost use Rattle.rx_ledger.specs.Counts.{is_miss};
+ghost use Rattle.rx_ledger.specs.Intervals.{any_job, preemptions, releases, retries};
 ghost use Rattle.rx_port.specs.Seats.{no_counts};
+ghost use Rattle.rx_set.specs.Valid.{KeepsCosts};
+ghost use Rattle.rx_set.specs.declared.policies.Policy.TheVariants.{Edf};
+ghost use Rattle.rx_tick.specs.Admitted.{IsAdmitted};
+ghost use Rattle.rx_tick.specs.Charges.{of_rank_below, of_rank_to};
 ghost use Rattle.rx_tick.specs.Banks.{IsBankOf, Touches};
 ghost use Rattle.rx_tick.specs.Executive.{moment};
 ghost use Rattle.rx_tick.specs.Sums.{AreSums};
 ghost use Rattle.rx_tick.specs.States.{AreStates, IsTurn, first_state_of};
 ghost use Rattle.rx_set.specs.View.{row_of};
 ghost use Rattle.rx_tick.specs.Schedule.{slots, slot_at, job_in};
-ghost use Rattle.rx_tick.specs.Events.{events_of, misses};
+ghost use Rattle.rx_tick.specs.Events.{events, events_of, misses};
 
+use crate::charges::retries_are_bounded;
 use crate::looks::tell_misses;
 use crate::objects::Objects;
 use crate::slots::make_slot;
 use crate::states::State;
 use crate::ticks::Tick;
 use crate::turns::Turn;
+use crate::windows::{fitting_spans_miss_nothing, served_sets_miss_nothing};
 use rx_port::Bank;
 use rx_seq::NoMemory;
 use rx_set::{Task, TaskSet};
@@ -121,6 +129,14 @@ impl<'s> Executive<'s> {
     /// that the seat of the job's task owns, and an exchange to the root of the attempt's object. It wants fewer than 2^40
     /// slots so far, and takes no memory. Where no job is released or finished and none can be missed, its cost is that of
     /// a machine's step, and else it grows with the number of tasks too.
+    ///
+    /// In each interval the retries so far, with those of this slot, are at most the preemptions, and under fixed
+    /// priorities those of the tasks of the first ranks are at most the releases of tasks of lower ranks. Where an
+    /// admission test holds for the set, and the costs that it states are kept, no miss is among the events.
+    //
+    // It is asked for each slot of a run, and so are the functions inside it: each is a part of this one where it has no
+    // loop, so that the state of a slot stays in registers.
+    #[inline(always)]
     pub fn tick(&mut self, out: &mut Tick)
         requires { self.old.time < 2 ^ 40 }
         ensures at { out.new.at ≡ self.old.time }
@@ -128,7 +144,14 @@ impl<'s> Executive<'s> {
         ensures events { out.new.events.items ≡ events_of self.old.system (slots self.old.system self.old.time) (slot_at self.old.system self.old.time) }
         ensures next { self.new ≡ moment self.old.system (self.old.time + 1) self.new.bank }
         ensures touches { Touches self.old.system (slots self.old.system self.old.time) (slot_at self.old.system self.old.time) self.old.bank self.new.bank }
+        ensures charge { (a b : ℕ) → retries any_job a b (events self.old.system (self.old.time + 1)) ≤ preemptions any_job a b (events self.old.system (self.old.time + 1)) }
+        ensures ranks { self.old.system.policy ≢ Edf → (place a b : ℕ) →
+            retries (of_rank_to self.old.system place) a b (events self.old.system (self.old.time + 1)) ≤ releases (of_rank_below self.old.system place) a b (events self.old.system (self.old.time + 1)) }
+        ensures on_time { KeepsCosts self.old.system → IsAdmitted self.old.system → count_by is_miss out.new.events.items ≡ 0 }
     {
+        retries_are_bounded();
+        served_sets_miss_nothing();
+        fitting_spans_miss_nothing();
         out.at = self.time;
         out.events.clear();
         make_slot(
@@ -143,13 +166,16 @@ impl<'s> Executive<'s> {
         self.time += 1;
     }
 
-    /// Tells the misses of this time alone, with no slot. It takes no memory, and its cost grows with the number of
-    /// tasks.
+    /// Tells the misses of this time alone, with no slot. There is none where an admission test holds for the set, and the
+    /// costs that it states are kept. It takes no memory, and its cost grows with the number of tasks.
     pub fn late(&self, out: &mut Tick)
         ensures at { out.new.at ≡ self.now.time }
         ensures slot { out.new.slot ≡ None }
         ensures events { out.new.events.items ≡ misses self.now.system (slots self.now.system self.now.time) }
+        ensures on_time { KeepsCosts self.now.system → IsAdmitted self.now.system → out.new.events.items ≡ [] }
     {
+        served_sets_miss_nothing();
+        fitting_spans_miss_nothing();
         out.at = self.time;
         out.slot = None;
         out.events.clear();

@@ -10,12 +10,13 @@ ghost use Rattle.rx_set.specs.declared.items.Item.{Item};
 ghost use Rattle.rx_set.specs.declared.items.Item.TheVariants.{Op};
 ghost use Rattle.rx_set.specs.declared.jobs.Job.{Job};
 ghost use Rattle.rx_ledger.specs.Counts.{is_reply, is_retry};
+ghost use Rattle.rx_ledger.specs.Ledgers.{time_of};
 ghost use Rattle.rx_ledger.specs.declared.events.Event.TheVariants.{Preempt, Reply, Retry};
-ghost use Rattle.rx_tick.specs.Events.{events, wins, wins_below};
+ghost use Rattle.rx_tick.specs.Events.{events, events_of, misses, wins, wins_below};
 ghost use Rattle.rx_tick.specs.Laws.{FollowsBodies, IsAmid, IsLeastAt, IsPendingAt, IsPreemption, IsReply, IsRetry, IsSpoiled, asked_by, asked_up_to, finished_before, lost_ticks, nth_job, slots_of, so_far, who};
 ghost use Rattle.rx_tick.specs.Schedule.{Busy, Decide, Idle, history, slot_at, slots};
 ghost use Rattle.rx_tick.specs.Sums.{decided_slots};
-ghost use Rattle.std.specs.List.{Contains};
+ghost use Rattle.std.specs.List.{All, Contains};
 ghost use Rattle.std.specs.Prelude.{ℕ, Option, List, suc, ◌∷◌, ◌++◌, ◌≡◌, ◌≢◌, ◌≤◌, ◌<◌, ◌+◌, ◌-◌, ◌↔◌, count_by, length, drop, slice_get, Some, None, true, false};
 
 /// A longer schedule begins with the shorter one: slots never change once they are made. The list of the first n slots
@@ -51,6 +52,13 @@ pub fn replies_and_retries_are_told()
     ensures retries { (system : System) (n at first : ℕ) (job : Job) (item expected found : ℕ) →
         Contains (events system n) (Retry at first job item expected found) ↔ ((at < n) × IsRetry system at first job item expected found) }
     ensures count { (system : System) (n : ℕ) → count_by is_reply (events system n) + count_by is_retry (events system n) ≡ decided_slots (slots system n) }
+{}
+
+/// Each event of a slot is told at the slot's time, and so is each miss of a time. So the times of a schedule's events
+/// never fall.
+pub fn events_have_their_time()
+    ensures slot { (system : System) (n : ℕ) → All (λ event. time_of event ≡ n) (events_of system (slots system n) (slot_at system n)) }
+    ensures late { (system : System) (n : ℕ) → All (λ event. time_of event ≡ n) (misses system (slots system n)) }
 {}
 
 /// The slots of a job are cut into its items in turn: what its complete items ask for, then what is in hand, which is

@@ -88,6 +88,7 @@ fn next_due(set: &TaskSet, states: &[State], now: u64) -> u64
 }
 
 /// Tells the misses of a time. Before the next time at which an unfinished job is due there is nothing to do.
+#[inline(always)]
 pub fn look_at_dues(
     set: &TaskSet,
     states: &[State],
@@ -247,6 +248,7 @@ fn count_releases(
 }
 
 /// Tells the releases of a time, and counts them. Before the next release there is nothing to do.
+#[inline(always)]
 pub fn look_at_releases(
     set: &TaskSet,
     states: &mut [State],

@@ -95,6 +95,7 @@ impl Objects {
     }
 
     /// Makes a tick of an operation of a job, and tells its reply or its retry where it is the last one of an attempt.
+    #[inline(always)]
     pub fn operate(
         &mut self,
         set: &TaskSet,

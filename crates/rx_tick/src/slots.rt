@@ -18,6 +18,7 @@ use rx_ledger::Event;
 use rx_set::{Item, Job, TaskSet};
 
 /// Whether two jobs are one.
+#[inline(always)]
 fn is_same(a: Job, b: Job) -> bool
     ensures { result ≡ same a b }
 {
@@ -25,6 +26,7 @@ fn is_same(a: Job, b: Job) -> bool
 }
 
 /// Whether a job that had the slot before is unfinished, and another job has this one.
+#[inline(always)]
 fn preempts(states: &[State], job: Job, by: Job) -> bool
     requires known { job.task < length states.now }
     requires number { 1 ≤ job.number }
@@ -38,6 +40,7 @@ fn preempts(states: &[State], job: Job, by: Job) -> bool
 }
 
 /// Tells the preemption at a slot, if there is one.
+#[inline(always)]
 fn tell_preemption(
     set: &TaskSet,
     states: &[State],
@@ -66,6 +69,7 @@ fn tell_preemption(
 }
 
 /// Makes a tick of work of a job, which is the last of its item or not.
+#[inline(always)]
 fn work(set: &TaskSet, state: &State, job: Job, now: u64, objects: &Objects) -> Made
     requires is { IsTicking set.now now job state.now objects.now }
     requires work { IsWorkAt set.now job state.now.complete }
@@ -80,6 +84,7 @@ fn work(set: &TaskSet, state: &State, job: Job, now: u64, objects: &Objects) -> 
 }
 
 /// Makes a tick of the item that a job has in hand, which is one of its body's.
+#[inline(always)]
 fn make_tick(
     set: &TaskSet,
     objects: &mut Objects,
@@ -105,6 +110,7 @@ fn make_tick(
 }
 
 /// Makes a tick of a job, and notes it in the state of its task.
+#[inline(always)]
 fn advance(
     set: &TaskSet,
     objects: &mut Objects,
@@ -131,6 +137,7 @@ fn advance(
 
 /// Gives the slot to a job that its task offers, and tells its finish if it is finished by it. Then another job may be
 /// the soonest.
+#[inline(always)]
 fn give_slot(
     set: &TaskSet,
     states: &mut [State],
@@ -166,6 +173,7 @@ fn give_slot(
 }
 
 /// Makes the slot of a time whose misses and releases are told: gives it to the soonest job, if there is one.
+#[inline(always)]
 fn take_slot(
     set: &TaskSet,
     states: &mut [State],
@@ -194,6 +202,7 @@ fn take_slot(
 }
 
 /// Makes the slot of a time, and tells its events.
+#[inline(always)]
 pub fn make_slot(
     set: &TaskSet,
     states: &mut [State],

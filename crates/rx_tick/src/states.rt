@@ -28,6 +28,7 @@ pub enum Made {
 
 impl State {
     /// Notes a tick of the job in hand, whose body has so many items.
+    #[inline(always)]
     pub fn note(&mut self, tick: Made, items: usize, now: u64)
         requires made { self.old.made < 2 ^ 63 }
         requires finished { self.old.finished < 2 ^ 63 }
