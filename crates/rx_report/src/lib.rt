@@ -1,4 +1,5 @@
-//! The lines of a report, and those of the faults of a task file, as exact bytes. The definitions are `specs/Lines.antt`.
+//! The lines of a report, those of the faults of a task file, those of the admission tests, and those of the intervals of a
+//! run, as exact bytes. The definitions are `specs/Lines.antt`, `specs/VerdictLines.antt` and `specs/SpanLines.antt`.
 #![tactic(auto)]
 
 mod calls;
@@ -9,12 +10,16 @@ mod jobs;
 mod lines;
 mod objects;
 mod replies;
+mod spans;
 #[cfg(test)]
 mod tests;
 mod totals;
+mod verdicts;
 
 pub use events::event_line;
 pub use faults::fault_line;
 pub use lines::Line;
 pub use objects::object_line;
+pub use spans::{edf_line, window_line};
 pub use totals::total_line;
+pub use verdicts::{fixed_line, rank_line};

@@ -10,7 +10,8 @@ use std::test::Fail;
 
 /// A task that works, calls a cell, and calls registers.
 fn shared(alloc: Global) -> Result<TaskSet, Fail>
-    ensures { IfOk result (λ set. length set.objects ≡ 2) }
+    ensures objects { IfOk result (λ set. length set.objects ≡ 2) }
+    ensures tasks { IfOk result (λ set. length set.tasks ≡ 1) }
 {
     let cell = Object {
         name: Name::from("c")?,
@@ -182,5 +183,24 @@ fn writes_objects(rt: HostRuntime) -> Result<(), Fail> {
     );
     line_of(&set, 0, 0, &[], &mut line)?;
     assert_eq!(rt; line.as_slice(), b"object c cell tag 0 state\n".as_slice());
+    Ok(())
+}
+
+#[test]
+fn writes_ranks(rt: HostRuntime) -> Result<(), Fail> {
+    let cases: [(Option<u64>, &[u8]); 3] = [
+        (Some(46), b"rank 1 a least 46 deadline 100\n"),
+        (
+            Some(u64::MAX),
+            b"rank 1 a least 18446744073709551615 deadline 100\n",
+        ),
+        (None, b"rank 1 a fails deadline 100\n"),
+    ];
+    let set = shared(rt.alloc())?;
+    let mut line = Line::new();
+    for (least, text) in cases {
+        rank_line(&set, 1, least, &mut line);
+        assert_eq!(rt; line.as_slice(), text);
+    }
     Ok(())
 }
