@@ -1,6 +1,9 @@
 pub mod Counting
 pub mod Banks
+pub mod NoMisses
 pub mod Lines
+pub mod Noting
 pub mod Outcomes
+pub mod Drawings
 pub mod Writes
 pub mod NewBanks

@@ -1,14 +1,14 @@
 -- The lines of a run, part by part.
 use Rattle.std.proofs.Common.{ℕ, zero, suc, ◌≡◌, ◌<◌, ◌+◌, ◌-◌, List, [], ◌∷◌, ◌++◌, length, take, drop, get_or, refl, sym, ap, ◌∙◌, append_assoc, append-nil, take-append-drop, add-one, add-zero, add-suc, arith}
+use Rattle.std.specs.List.{flat_map}
 use Rattle.std.proofs.lemmas.Grind.{take_at_read, flat_map-append}
-use Rattle.rx_seq.specs.declared.entries.Entry.{Entry}
 use Rattle.rx_set.specs.System.{System, numbers}
 use Rattle.rx_ledger.specs.declared.events.Event.{Event}
 use Rattle.rx_tick.specs.Schedule.{slots, slot_at}
 use Rattle.rx_tick.specs.Events.{events, events_of, misses}
 use Rattle.rx_report.specs.Lines.{event_line, total_line}
-use Rattle.rx_top.specs.Report.{report, object_line_after, object_lines, run_totals}
-use Rattle.rx_top.specs.Runs.{lines_of, end_lines, first_objects}
+use Rattle.rx_top.specs.Report.{schedule_lines, object_lines, run_totals}
+use Rattle.rx_top.specs.Runs.{lines_of, end_lines}
 
 pub lines_append : (system : System) (xs ys : List Event) → lines_of system (xs ++ ys) ≡ lines_of system xs ++ lines_of system ys
 lines_append system xs ys = flat_map-append (event_line system) xs ys
@@ -66,9 +66,9 @@ lines_later system n last h =
           ∙ append_assoc (lines_of system (events system n)) (lines_of system told) (lines_of system more.0),
     )
 
--- the parts of a report
-pub report_parts : (system : System) (n : ℕ) → report system n ≡ lines_of system (events system n) ++ end_lines system n
-report_parts system n =
+-- the parts of the lines of a schedule
+pub schedule_parts : (system : System) (n : ℕ) → schedule_lines system n ≡ lines_of system (events system n) ++ end_lines system n
+schedule_parts system n =
     let late = misses system (slots system n) in
     let objects = object_lines system n in
     let total = total_line (run_totals system n) in
@@ -76,28 +76,28 @@ report_parts system n =
     ∙ append_assoc (lines_of system (events system n) ++ lines_of system late) objects total
     ∙ append_assoc (lines_of system (events system n)) (lines_of system late) (objects ++ total)
 
--- one more object
-pub object_next : (system : System) (before : List Entry) (count : ℕ) → first_objects system before (count + 1) ≡ first_objects system before count ++ object_line_after system before count
-object_next system before count =
-    rw (add-one count) (flat_map-append (object_line_after system before) (numbers count) (count ∷ []) ∙ ap (λ r. first_objects system before count ++ r) (append-nil (object_line_after system before count)))
+-- one part more of texts that are made of the numbers from 0 on
+pub part_next : (part : ℕ → List ℕ) (count : ℕ) → flat_map part (numbers (count + 1)) ≡ flat_map part (numbers count) ++ part count
+part_next part count =
+    rw (add-one count) (flat_map-append part (numbers count) (count ∷ []) ∙ ap (λ r. flat_map part (numbers count) ++ r) (append-nil (part count)))
 
--- the lines of more objects begin with those of fewer
-objects_from : (system : System) (before : List Entry) (count more : ℕ) → (rest : List ℕ) × (first_objects system before (count + more) ≡ first_objects system before count ++ rest)
-objects_from system before count zero = ([], rw (add-zero count) (sym (append-nil (first_objects system before count))))
-objects_from system before count (suc more) =
-    let fewer = objects_from system before count more in
-    let next = object_line_after system before (count + more) in
-    (fewer.0 ++ next, rw (add-suc count more) (ap (λ k. first_objects system before k) (sym (add-one (count + more))) ∙ object_next system before (count + more) ∙ ap (λ r. r ++ next) fewer.1 ∙ append_assoc (first_objects system before count) fewer.0 next))
+-- the text of more parts begins with that of fewer
+parts_from : (part : ℕ → List ℕ) (count more : ℕ) → (rest : List ℕ) × (flat_map part (numbers (count + more)) ≡ flat_map part (numbers count) ++ rest)
+parts_from part count zero = ([], rw (add-zero count) (sym (append-nil (flat_map part (numbers count)))))
+parts_from part count (suc more) =
+    let fewer = parts_from part count more in
+    let next = part (count + more) in
+    (fewer.0 ++ next, rw (add-suc count more) (ap (λ k. flat_map part (numbers k)) (sym (add-one (count + more))) ∙ part_next part (count + more) ∙ ap (λ r. r ++ next) fewer.1 ∙ append_assoc (flat_map part (numbers count)) fewer.0 next))
 
--- the line of an object, and those before and after it
-pub object_around : (system : System) (before : List Entry) (count last : ℕ) → count < last
-    → (rest : List ℕ) × (first_objects system before last ≡ first_objects system before count ++ (object_line_after system before count ++ rest))
-object_around system before count last h =
-    let more = objects_from system before (count + 1) (last - (count + 1)) in
+-- a part, and those before and after it
+pub part_around : (part : ℕ → List ℕ) (count last : ℕ) → count < last
+    → (rest : List ℕ) × (flat_map part (numbers last) ≡ flat_map part (numbers count) ++ (part count ++ rest))
+part_around part count last h =
+    let more = parts_from part (count + 1) (last - (count + 1)) in
     let same : count + 1 + (last - (count + 1)) ≡ last = omega arith in (
       more.0,
-      ap (λ k. first_objects system before k) (sym same)
+      ap (λ k. flat_map part (numbers k)) (sym same)
           ∙ more.1
-          ∙ ap (λ r. r ++ more.0) (object_next system before count)
-          ∙ append_assoc (first_objects system before count) (object_line_after system before count) more.0,
+          ∙ ap (λ r. r ++ more.0) (part_next part count)
+          ∙ append_assoc (flat_map part (numbers count)) (part count) more.0,
     )

@@ -1,10 +1,11 @@
 -- Which answer a call gives.
-use Rattle.std.specs.Prelude.{ℕ, ◌≡◌, ◌+◌, Bool, true, false, List, drop, Option, Some}
+use Rattle.std.specs.Prelude.{ℕ, ◌≡◌, ◌+◌, Bool, true, false, List, drop, Option, Some, IfSome}
 use Rattle.std.specs.Io.KnownBytes.{Appends}
+use Rattle.rx_set.specs.Valid.{IsValid}
 use Rattle.rx_top.specs.declared.words.Command.{Command}
 use Rattle.rx_top.specs.declared.left.Left.{Left}
 use Rattle.rx_top.specs.declared.status.Status.{Status}
-use Rattle.rx_top.specs.declared.status.Status.TheVariants.{Done, Adverse, Words, ReadFault, TooLarge, NotToml, BadSet, WriteFault, NoMemory}
+use Rattle.rx_top.specs.declared.status.Status.TheVariants.{Done, Adverse, Words, ReadFault, TooLarge, NotToml, BadSet, WriteFault, NoMemory, Wide, Long}
 use Rattle.rx_top.specs.Words.{reads_input}
 use Rattle.rx_top.specs.Leaves.{Leaves}
 use Rattle.rx_top.specs.Outcome.{Ends, answer, most_input}
@@ -20,11 +21,14 @@ is_calm Words = true
 is_calm TooLarge = true
 is_calm NotToml = true
 is_calm BadSet = true
+is_calm Wide = true
+is_calm Long = true
 
--- the status, the bytes and the bank are those of the words and the input, and this is the rest of the input
+-- the status, the bytes and the bank are those of the words and the input, the set that they are about is valid, and this is the rest of the input
 pub record IsDetermined (command : Option Command) (input : List ℕ) (before after : Ends) (left : Left) (result : Status) (rest : Option (List ℕ)) : Type 0 where
   pub status : result ≡ (answer command input).status
   pub written : Appends before.taken after.taken (answer command input).output
+  pub valid : IfSome (answer command input).about IsValid
   pub bank : Leaves (answer command input).run left
   pub unread : after.left ≡ rest
 

@@ -1,5 +1,7 @@
 pub mod Words
+pub mod Tests
 pub mod Report
+pub mod Drawn
 pub mod Runs
 pub mod Leaves
 pub mod Outcome

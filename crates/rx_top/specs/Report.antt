@@ -10,6 +10,7 @@ use Rattle.rx_tick.specs.Schedule.{history, slots}
 use Rattle.rx_tick.specs.Events.{events, misses}
 use Rattle.rx_tick.specs.Counts.{totals_of}
 use Rattle.rx_report.specs.Lines.{event_line, object_line, total_line}
+use Rattle.rx_top.specs.Tests.{test_line}
 
 -- the events of the first n slots, and the misses at time n
 abbrev pub told_of : System → ℕ → List Event
@@ -27,9 +28,13 @@ object_line_after system before object = object_line system object (tag_of objec
 abbrev pub object_lines : System → ℕ → List ℕ
 object_lines system n = flat_map (object_line_after system (history (slots system n))) (numbers (length system.objects))
 
--- all that a run of n ticks writes: its events, its objects and its totals
+-- the lines of the schedule of n ticks: its events, its objects and its totals
+abbrev pub schedule_lines : System → ℕ → List ℕ
+schedule_lines system n = flat_map (event_line system) (told_of system n) ++ object_lines system n ++ total_line (run_totals system n)
+
+-- all that a run of n ticks writes: the line of the admission test, and the lines of the schedule
 abbrev pub report : System → ℕ → List ℕ
-report system n = flat_map (event_line system) (told_of system n) ++ object_lines system n ++ total_line (run_totals system n)
+report system n = test_line system ++ schedule_lines system n
 
 -- how many misses a run of n ticks tells
 abbrev pub misses_told : System → ℕ → ℕ

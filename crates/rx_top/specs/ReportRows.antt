@@ -8,6 +8,7 @@ use Rattle.rx_set.specs.declared.policies.Policy.TheVariants.{Rm}
 use Rattle.rx_set.specs.declared.items.Item.{Item}
 use Rattle.rx_set.specs.declared.items.Item.TheVariants.{Work, Op}
 use Rattle.rx_set.specs.System.{System, ObjectRow, TaskRow}
+use Rattle.rx_top.specs.Tests.{fixed_report}
 use Rattle.rx_top.specs.Report.{misses_told, report}
 
 abbrev task : List ℕ → ℕ → ℕ → List Item → TaskRow
@@ -26,7 +27,7 @@ work_alone = record {
 }
 
 pub work_alone_report : report work_alone 10 ≡
-    codes "0 release b 1\n1 release a 1\n1 preempt b 1 by a 1\n1 finish a 1\n3 finish b 1\n5 release a 2\n5 finish a 2\n8 release b 2\n9 release a 3\n9 preempt b 2 by a 3\n9 finish a 3\ntotal ticks 10 idle 3 released 5 finished 4 replies 0 retries 0 preempted 2 missed 0\n"
+    codes "test yes\n0 release b 1\n1 release a 1\n1 preempt b 1 by a 1\n1 finish a 1\n3 finish b 1\n5 release a 2\n5 finish a 2\n8 release b 2\n9 release a 3\n9 preempt b 2 by a 3\n9 finish a 3\ntotal ticks 10 idle 3 released 5 finished 4 replies 0 retries 0 preempted 2 missed 0\n"
 unfolding digits
 work_alone_report = refl
 
@@ -40,13 +41,13 @@ retried = record {
 }
 
 pub retried_report : report retried 10 ≡
-    codes "0 release b 1\n2 release a 1\n2 preempt b 1 by a 1\n3 reply a 1 1 add c 1 -> done 1 tag 1\n3 finish a 1\n4 retry b 1 2 c tag 0 now 1\n6 reply b 1 2 add c 5 -> done 6 tag 2\n7 finish b 1\nobject c cell tag 2 state 6\ntotal ticks 10 idle 2 released 2 finished 2 replies 2 retries 1 preempted 1 missed 0\n"
+    codes "test yes\n0 release b 1\n2 release a 1\n2 preempt b 1 by a 1\n3 reply a 1 1 add c 1 -> done 1 tag 1\n3 finish a 1\n4 retry b 1 2 c tag 0 now 1\n6 reply b 1 2 add c 5 -> done 6 tag 2\n7 finish b 1\nobject c cell tag 2 state 6\ntotal ticks 10 idle 2 released 2 finished 2 replies 2 retries 1 preempted 1 missed 0\n"
 unfolding digits
 retried_report = refl
 
 -- a run of no ticks tells the objects as they are at first
 pub fresh_report : report retried 0 ≡
-    codes "object c cell tag 0 state 0\ntotal ticks 0 idle 0 released 0 finished 0 replies 0 retries 0 preempted 0 missed 0\n"
+    codes "test yes\nobject c cell tag 0 state 0\ntotal ticks 0 idle 0 released 0 finished 0 replies 0 retries 0 preempted 0 missed 0\n"
 unfolding digits
 fresh_report = refl
 
@@ -60,7 +61,7 @@ apart = record {
 }
 
 pub apart_report : report apart 5 ≡
-    codes "0 release lo 1\n1 release hi 1\n1 preempt lo 1 by hi 1\n2 reply hi 1 1 add e 2 -> done 2 tag 1\n2 finish hi 1\n3 reply lo 1 1 add c 1 -> done 1 tag 1\n3 finish lo 1\nobject c cell tag 1 state 1\nobject e cell tag 1 state 2\ntotal ticks 5 idle 1 released 2 finished 2 replies 2 retries 0 preempted 1 missed 0\n"
+    codes "test yes\n0 release lo 1\n1 release hi 1\n1 preempt lo 1 by hi 1\n2 reply hi 1 1 add e 2 -> done 2 tag 1\n2 finish hi 1\n3 reply lo 1 1 add c 1 -> done 1 tag 1\n3 finish lo 1\nobject c cell tag 1 state 1\nobject e cell tag 1 state 2\ntotal ticks 5 idle 1 released 2 finished 2 replies 2 retries 0 preempted 1 missed 0\n"
 unfolding digits
 apart_report = refl
 
@@ -74,7 +75,7 @@ nested = record {
 }
 
 pub nested_report : report nested 50 ≡
-    codes "0 release c 1\n2 release b 1\n2 preempt c 1 by b 1\n4 release a 1\n4 preempt b 1 by a 1\n11 reply a 1 1 put q 7 -> done 1 tag 1\n11 finish a 1\n17 retry b 1 1 q tag 0 now 1\n25 reply b 1 1 take q -> done 7 tag 2\n25 finish b 1\n31 retry c 1 1 q tag 0 now 2\n39 reply c 1 1 take q -> empty tag 3\n39 finish c 1\nobject q queue tag 3 state\ntotal ticks 50 idle 10 released 3 finished 3 replies 3 retries 2 preempted 2 missed 0\n"
+    codes "test yes\n0 release c 1\n2 release b 1\n2 preempt c 1 by b 1\n4 release a 1\n4 preempt b 1 by a 1\n11 reply a 1 1 put q 7 -> done 1 tag 1\n11 finish a 1\n17 retry b 1 1 q tag 0 now 1\n25 reply b 1 1 take q -> done 7 tag 2\n25 finish b 1\n31 retry c 1 1 q tag 0 now 2\n39 reply c 1 1 take q -> empty tag 3\n39 finish c 1\nobject q queue tag 3 state\ntotal ticks 50 idle 10 released 3 finished 3 replies 3 retries 2 preempted 2 missed 0\n"
 unfolding digits
 nested_report = refl
 
@@ -83,9 +84,22 @@ abbrev overload : System
 overload = record { policy = Rm; objects = []; tasks = task (codes "late") 2 0 (Work 3 ∷ []) ∷ []; demands = [] }
 
 pub overload_report : report overload 4 ≡
-    codes "0 release late 1\n2 miss late 1\n2 release late 2\n2 finish late 1\n4 miss late 2\ntotal ticks 4 idle 0 released 2 finished 1 replies 0 retries 0 preempted 0 missed 2\n"
+    codes "test no rank 1\n0 release late 1\n2 miss late 1\n2 release late 2\n2 finish late 1\n4 miss late 2\ntotal ticks 4 idle 0 released 2 finished 1 replies 0 retries 0 preempted 0 missed 2\n"
 unfolding digits
 overload_report = refl
 
 pub overload_misses : misses_told overload 4 ≡ 2
 overload_misses = refl
+
+-- what the admission test says of three of these sets
+pub retried_admitted : fixed_report retried ≡ codes "test yes\nrank 1 a least 2 deadline 10\nrank 2 b least 8 deadline 20\n"
+unfolding digits
+retried_admitted = refl
+
+pub nested_admitted : fixed_report nested ≡ codes "test yes\nrank 1 a least 8 deadline 100\nrank 2 b least 24 deadline 200\nrank 3 c least 40 deadline 400\n"
+unfolding digits
+nested_admitted = refl
+
+pub overload_refused : fixed_report overload ≡ codes "test no rank 1\nrank 1 late fails deadline 2\n"
+unfolding digits
+overload_refused = refl

@@ -1,16 +1,19 @@
 -- What a run has written and counted so far.
-use Rattle.std.specs.Prelude.{ℕ, ◌≡◌, ◌+◌, ◌*◌, List, ◌++◌}
-use Rattle.std.specs.List.{flat_map}
+use Rattle.std.specs.Prelude.{ℕ, ◌≡◌, ◌≤◌, ◌+◌, ◌*◌, List, ◌++◌}
+use Rattle.std.specs.List.{All, flat_map}
 use Rattle.rx_seq.specs.declared.entries.Entry.{Entry}
 use Rattle.rx_set.specs.System.{System, numbers}
 use Rattle.rx_ledger.specs.declared.events.Event.{Event}
 use Rattle.rx_ledger.specs.declared.totals.Totals.{Totals}
 use Rattle.rx_ledger.specs.Counts.{AreBelow}
+use Rattle.rx_ledger.specs.Ledgers.{time_of}
 use Rattle.rx_tick.specs.Schedule.{slots}
 use Rattle.rx_tick.specs.Events.{events, misses}
 use Rattle.rx_tick.specs.Counts.{totals_of}
 use Rattle.rx_report.specs.Lines.{event_line, total_line}
-use Rattle.rx_top.specs.Report.{run_totals, object_line_after, object_lines}
+use Rattle.rx_port.specs.Plain.{Whole}
+use Rattle.rx_tick.specs.Banks.{IsBankOf}
+use Rattle.rx_top.specs.Report.{told_of, run_totals, object_line_after, object_lines}
 
 -- the lines of some events
 abbrev pub lines_of : System → List Event → List ℕ
@@ -20,6 +23,18 @@ lines_of system told = flat_map (event_line system) told
 pub record AreCounts (system : System) (n : ℕ) (totals : Totals) : Type 0 where
   pub totals_are : totals ≡ totals_of (slots system n) (events system n)
   pub small : AreBelow (1 + 132 * n) totals
+
+-- The ledger has the events of the first n slots, each of which is before time n, and the totals are theirs.
+pub record AreNoted (system : System) (n : ℕ) (ledger : List Event) (totals : Totals) : Type 0 where
+  pub events_are : ledger ≡ events system n
+  pub earlier : All (λ event. time_of event ≤ n) ledger
+  pub counts : AreCounts system n totals
+
+-- This is what is noted of a run of n ticks: all events that are told, their totals, and a bank that stands for its history.
+pub record IsRun (system : System) (n : ℕ) (ledger : List Event) (totals : Totals) (bank : Whole) : Type 0 where
+  pub events_are : ledger ≡ told_of system n
+  pub totals_are : totals ≡ run_totals system n
+  pub stands : IsBankOf system (slots system n) bank
 
 -- what is written after the events of the slots: the misses at the end, the objects and the totals
 abbrev pub end_lines : System → ℕ → List ℕ

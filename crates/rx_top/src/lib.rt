@@ -4,6 +4,10 @@
 //! of `specs/Outcome.antt`, and each status has its cause in `Outcome` there.
 #![tactic(auto)]
 
+mod admits;
+#[cfg(test)]
+mod charge_tests;
+mod draws;
 mod left;
 mod runs;
 mod status;

@@ -8,10 +8,11 @@ ghost use Rattle.rx_io.specs.Causes.{Puts};
 ghost use Rattle.rx_tick.specs.Schedule.{Slot, history, slots, slot_at};
 ghost use Rattle.rx_tick.specs.Events.{events, events_of, misses};
 ghost use Rattle.rx_report.specs.Lines.{total_line};
-ghost use Rattle.rx_top.specs.Report.{report, run_totals, misses_told, object_line_after};
+ghost use Rattle.rx_top.specs.Report.{report, schedule_lines, run_totals, misses_told, object_line_after};
 ghost use Rattle.rx_top.specs.Leaves.{IsBankLeft};
 ghost use Rattle.rx_top.specs.Runs.{lines_of, AreCounts, end_lines, first_objects};
 
+use crate::admits::put_test;
 use rx_io::{Failed, Sink, put};
 use rx_ledger::{Event, Totals};
 use rx_port::Bank;
@@ -48,7 +49,11 @@ fn put_events<K: Sink>(
 }
 
 /// Hands in the line of the totals.
-fn put_totals<K: Sink>(totals: &Totals, line: &mut Line, sink: &mut K) -> Result<(), Failed>
+pub(crate) fn put_totals<K: Sink>(
+    totals: &Totals,
+    line: &mut Line,
+    sink: &mut K,
+) -> Result<(), Failed>
     requires { K.faults sink.old < 2 ^ 63 }
     ensures { Puts (K.taken sink.old) (K.taken sink.new) (K.faults sink.old) (K.faults sink.new)
         result (total_line totals.now) }
@@ -133,7 +138,7 @@ fn put_object<K: Sink>(
 }
 
 /// Hands in the lines of the objects, after all slots.
-fn put_objects<K: Sink>(
+pub(crate) fn put_objects<K: Sink>(
     set: &TaskSet,
     bank: &Bank,
     line: &mut Line,
@@ -193,32 +198,32 @@ pub(crate) struct Ended {
     pub bank: Bank,
 }
 
-/// Runs an executive from its start for so many slots, hands in the report line by line, and answers how many misses
-/// it tells, with the bank. It takes no memory.
-pub(crate) fn write_run<K: Sink>(
+/// Runs an executive from its start for so many slots, hands in the lines of its schedule, and answers how many misses
+/// they tell, with the bank.
+fn write_schedule<K: Sink>(
     set: &TaskSet,
     mut executive: Executive,
     ticks: u64,
+    line: &mut Line,
     sink: &mut K,
 ) -> Result<Ended, Failed>
     requires faults { K.faults sink.old < 2 ^ 63 }
     requires ticks { ticks ≤ 1000000 }
     requires start { executive ≡ moment set.now 0 executive.bank }
     ensures puts { Puts (K.taken sink.old) (K.taken sink.new) (K.faults sink.old) (K.faults sink.new)
-        result (report set.now ticks) }
+        result (schedule_lines set.now ticks) }
     ensures misses { IfOk result (λ ended. ended.missed ≡ misses_told set.now ticks) }
     ensures bank { IfOk result (λ ended. IsBankLeft set.now ticks ended.bank) }
 {
     let mut tick = Tick::new();
     let mut totals = Totals::new();
-    let mut line = Line::new();
     match write_slots(
         set,
         &mut executive,
         ticks,
         &mut tick,
         &mut totals,
-        &mut line,
+        line,
         sink,
     ) {
         Ok(()) => {}
@@ -233,7 +238,7 @@ pub(crate) fn write_run<K: Sink>(
         ticks,
         tick.events.as_slice(),
         &mut totals,
-        &mut line,
+        line,
         sink,
     ) {
         Ok(()) => Ok(Ended {
@@ -242,4 +247,28 @@ pub(crate) fn write_run<K: Sink>(
         }),
         Err(Failed) => Err(Failed),
     }
+}
+
+/// Hands in the line of the set's admission test, and then runs an executive from its start for so many slots and hands
+/// in the lines of its schedule. Answers how many misses they tell, with the bank. It takes no memory.
+pub(crate) fn write_run<K: Sink>(
+    set: &TaskSet,
+    executive: Executive,
+    ticks: u64,
+    sink: &mut K,
+) -> Result<Ended, Failed>
+    requires faults { K.faults sink.old < 2 ^ 63 }
+    requires ticks { ticks ≤ 1000000 }
+    requires start { executive ≡ moment set.now 0 executive.bank }
+    ensures puts { Puts (K.taken sink.old) (K.taken sink.new) (K.faults sink.old) (K.faults sink.new)
+        result (report set.now ticks) }
+    ensures misses { IfOk result (λ ended. ended.missed ≡ misses_told set.now ticks) }
+    ensures bank { IfOk result (λ ended. IsBankLeft set.now ticks ended.bank) }
+{
+    let mut line = Line::new();
+    match put_test(set, &mut line, sink) {
+        Ok(()) => {}
+        Err(Failed) => return Err(Failed),
+    }
+    write_schedule(set, executive, ticks, &mut line, sink)
 }

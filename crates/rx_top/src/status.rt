@@ -5,9 +5,9 @@ ghost use Rattle.rx_top.specs.Outcome.{code_of};
 /// How a call of `top` ends.
 #[derive(Clone, Copy, Debug, PartialEq, Eq)]
 pub enum Status {
-    /// The whole report was written, and it tells no miss.
+    /// The whole report was written: of `run`, one that tells no miss, and of `admit`, that the test says yes.
     Done,
-    /// The whole report was written, and it tells a miss.
+    /// The whole report was written: of `run`, one that tells a miss, and of `admit`, that the test says no.
     Adverse,
     /// The words have no shape; the line `words` was written.
     Words,
@@ -23,10 +23,16 @@ pub enum Status {
     WriteFault,
     /// The memory was refused; nothing was written.
     NoMemory,
+    /// `admit`: the least common multiple of the periods is 2^96 or more, too wide for the test for earliest deadlines
+    /// first; its line was written.
+    Wide,
+    /// `admit`: the test for earliest deadlines first would have to look at the times of more than 1,000,000 jobs; its line
+    /// was written.
+    Long,
 }
 
 impl Status {
-    /// The exit code of the program: 0 to 8, in the order of the variants.
+    /// The exit code of the program: 0 to 10, in the order of the variants.
     pub fn code(self) -> u8
         ensures { result ≡ code_of self }
     {
@@ -40,6 +46,8 @@ impl Status {
             Status::BadSet => 6,
             Status::WriteFault => 7,
             Status::NoMemory => 8,
+            Status::Wide => 9,
+            Status::Long => 10,
         }
     }
 }

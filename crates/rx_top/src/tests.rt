@@ -1,7 +1,12 @@
 use super::*;
-use rx_io::{Failed, InSource, MemorySink, MemorySource, OutSink, Source};
+use crate::tops::new_executive;
+use rx_fixed::{Verdict, test};
+use rx_io::{InSource, MemorySink, MemorySource, OutSink};
+use rx_ledger::Event;
 use rx_port::Counts;
 use rx_seq::State;
+use rx_set::{Policy, TaskSet, generate};
+use rx_tick::{Executive, Tick};
 use std::alloc::{AllocError, Global};
 use std::io;
 use std::io::{ErrorKind, Read, Write};
@@ -11,99 +16,151 @@ const FILE: &str =
     "task = [{name=\"a\", period=4, offset=1, body=[\"work 1\"]}, {name=\"b\", period=8, body=[\"work 3\"]}]\n";
 
 const REPORT: &str =
-    "0 release b 1\n1 release a 1\n1 preempt b 1 by a 1\n1 finish a 1\n3 finish b 1\n5 release a 2\n5 finish a 2\n8 release b 2\n9 release a 3\n9 preempt b 2 by a 3\n9 finish a 3\ntotal ticks 10 idle 3 released 5 finished 4 replies 0 retries 0 preempted 2 missed 0\n";
+    "test yes\n0 release b 1\n1 release a 1\n1 preempt b 1 by a 1\n1 finish a 1\n3 finish b 1\n5 release a 2\n5 finish a 2\n8 release b 2\n9 release a 3\n9 preempt b 2 by a 3\n9 finish a 3\ntotal ticks 10 idle 3 released 5 finished 4 replies 0 retries 0 preempted 2 missed 0\n";
 
 const OVERLOAD: &str = "task = [{name=\"x\", period=2, body=[\"work 3\"]}]\n";
 
 const LATE: &str =
-    "0 release x 1\n2 miss x 1\n2 release x 2\n2 finish x 1\n4 miss x 2\n4 release x 3\n5 finish x 2\n6 miss x 3\ntotal ticks 6 idle 0 released 3 finished 2 replies 0 retries 0 preempted 0 missed 3\n";
+    "test no rank 1\n0 release x 1\n2 miss x 1\n2 release x 2\n2 finish x 1\n4 miss x 2\n4 release x 3\n5 finish x 2\n6 miss x 3\ntotal ticks 6 idle 0 released 3 finished 2 replies 0 retries 0 preempted 0 missed 3\n";
 
 // One task preempts another between the load and the exchange of its operation on a cell.
 const SHARED: &str =
     "[[object]]\nname = \"c\"\nkind = \"cell\"\n[[task]]\nname = \"a\"\nperiod = 10\noffset = 2\nbody = [\"add c 1\"]\n[[task]]\nname = \"b\"\nperiod = 20\nbody = [\"work 1\", \"add c 5\", \"work 1\"]\n";
 
 const RETRIED: &str =
-    "0 release b 1\n2 release a 1\n2 preempt b 1 by a 1\n3 reply a 1 1 add c 1 -> done 1 tag 1\n3 finish a 1\n4 retry b 1 2 c tag 0 now 1\n6 reply b 1 2 add c 5 -> done 6 tag 2\n7 finish b 1\nobject c cell tag 2 state 6\ntotal ticks 10 idle 2 released 2 finished 2 replies 2 retries 1 preempted 1 missed 0\n";
+    "test yes\n0 release b 1\n2 release a 1\n2 preempt b 1 by a 1\n3 reply a 1 1 add c 1 -> done 1 tag 1\n3 finish a 1\n4 retry b 1 2 c tag 0 now 1\n6 reply b 1 2 add c 5 -> done 6 tag 2\n7 finish b 1\nobject c cell tag 2 state 6\ntotal ticks 10 idle 2 released 2 finished 2 replies 2 retries 1 preempted 1 missed 0\n";
 
 const UNUSED: &str =
-    "object c cell tag 0 state 0\ntotal ticks 0 idle 0 released 0 finished 0 replies 0 retries 0 preempted 0 missed 0\n";
+    "test yes\nobject c cell tag 0 state 0\ntotal ticks 0 idle 0 released 0 finished 0 replies 0 retries 0 preempted 0 missed 0\n";
 
 // Two releases at one tick spoil one attempt, which is lost once.
 const TWO: &str =
     "object = [{name=\"c\", kind=\"cell\"}]\ntask = [{name=\"hi1\", period=10, offset=1, body=[\"add c 1\"]}, {name=\"hi2\", period=20, offset=1, body=[\"add c 1\"]}, {name=\"lo\", period=40, body=[\"add c 1\"]}]\n";
 
 const TWICE: &str =
-    "0 release lo 1\n1 release hi1 1\n1 release hi2 1\n1 preempt lo 1 by hi1 1\n2 reply hi1 1 1 add c 1 -> done 1 tag 1\n2 finish hi1 1\n4 reply hi2 1 1 add c 1 -> done 2 tag 2\n4 finish hi2 1\n5 retry lo 1 1 c tag 0 now 2\n7 reply lo 1 1 add c 1 -> done 3 tag 3\n7 finish lo 1\nobject c cell tag 3 state 3\ntotal ticks 8 idle 0 released 3 finished 3 replies 3 retries 1 preempted 1 missed 0\n";
+    "test yes\n0 release lo 1\n1 release hi1 1\n1 release hi2 1\n1 preempt lo 1 by hi1 1\n2 reply hi1 1 1 add c 1 -> done 1 tag 1\n2 finish hi1 1\n4 reply hi2 1 1 add c 1 -> done 2 tag 2\n4 finish hi2 1\n5 retry lo 1 1 c tag 0 now 2\n7 reply lo 1 1 add c 1 -> done 3 tag 3\n7 finish lo 1\nobject c cell tag 3 state 3\ntotal ticks 8 idle 0 released 3 finished 3 replies 3 retries 1 preempted 1 missed 0\n";
 
 // The task that preempts uses another object, so the preempted attempt wins.
 const APART: &str =
     "object = [{name=\"c\", kind=\"cell\"}, {name=\"e\", kind=\"cell\"}]\ntask = [{name=\"hi\", period=10, offset=1, body=[\"add e 1\"]}, {name=\"lo\", period=20, body=[\"add c 1\"]}]\n";
 
 const WON: &str =
-    "0 release lo 1\n1 release hi 1\n1 preempt lo 1 by hi 1\n2 reply hi 1 1 add e 1 -> done 1 tag 1\n2 finish hi 1\n3 reply lo 1 1 add c 1 -> done 1 tag 1\n3 finish lo 1\nobject c cell tag 1 state 1\nobject e cell tag 1 state 1\ntotal ticks 5 idle 1 released 2 finished 2 replies 2 retries 0 preempted 1 missed 0\n";
+    "test yes\n0 release lo 1\n1 release hi 1\n1 preempt lo 1 by hi 1\n2 reply hi 1 1 add e 1 -> done 1 tag 1\n2 finish hi 1\n3 reply lo 1 1 add c 1 -> done 1 tag 1\n3 finish lo 1\nobject c cell tag 1 state 1\nobject e cell tag 1 state 1\ntotal ticks 5 idle 1 released 2 finished 2 replies 2 retries 0 preempted 1 missed 0\n";
 
 // Each call on a cell, over the top and with another value among them.
 const CALLS: &str =
     "object = [{name=\"c\", kind=\"cell\"}]\ntask = [{name=\"t\", period=100, body=[\"set c 16777215\", \"add c 1\", \"swap c 16777215 0\", \"swap c 5 6\"]}]\n";
 
 const REPLIES: &str =
-    "0 release t 1\n1 reply t 1 1 set c 16777215 -> done 16777215 tag 1\n3 reply t 1 2 add c 1 -> over tag 2\n5 reply t 1 3 swap c 16777215 0 -> done 0 tag 3\n7 reply t 1 4 swap c 5 6 -> differs 0 tag 4\n7 finish t 1\nobject c cell tag 4 state 0\ntotal ticks 8 idle 0 released 1 finished 1 replies 4 retries 0 preempted 0 missed 0\n";
+    "test yes\n0 release t 1\n1 reply t 1 1 set c 16777215 -> done 16777215 tag 1\n3 reply t 1 2 add c 1 -> over tag 2\n5 reply t 1 3 swap c 16777215 0 -> done 0 tag 3\n7 reply t 1 4 swap c 5 6 -> differs 0 tag 4\n7 finish t 1\nobject c cell tag 4 state 0\ntotal ticks 8 idle 0 released 1 finished 1 replies 4 retries 0 preempted 0 missed 0\n";
 
 // Two preemptions nested in the attempts of one queue: each outer attempt is lost once.
 const NESTED: &str =
     "object = [{name=\"q\", kind=\"queue\", capacity=1}]\ntask = [{name=\"a\", period=100, offset=4, body=[\"put q 7\"]}, {name=\"b\", period=200, offset=2, body=[\"take q\"]}, {name=\"c\", period=400, body=[\"take q\"]}]\n";
 
 const NESTED_REPORT: &str =
-    "0 release c 1\n2 release b 1\n2 preempt c 1 by b 1\n4 release a 1\n4 preempt b 1 by a 1\n11 reply a 1 1 put q 7 -> done 1 tag 1\n11 finish a 1\n17 retry b 1 1 q tag 0 now 1\n25 reply b 1 1 take q -> done 7 tag 2\n25 finish b 1\n31 retry c 1 1 q tag 0 now 2\n39 reply c 1 1 take q -> empty tag 3\n39 finish c 1\nobject q queue tag 3 state\ntotal ticks 50 idle 10 released 3 finished 3 replies 3 retries 2 preempted 2 missed 0\n";
+    "test yes\n0 release c 1\n2 release b 1\n2 preempt c 1 by b 1\n4 release a 1\n4 preempt b 1 by a 1\n11 reply a 1 1 put q 7 -> done 1 tag 1\n11 finish a 1\n17 retry b 1 1 q tag 0 now 1\n25 reply b 1 1 take q -> done 7 tag 2\n25 finish b 1\n31 retry c 1 1 q tag 0 now 2\n39 reply c 1 1 take q -> empty tag 3\n39 finish c 1\nobject q queue tag 3 state\ntotal ticks 50 idle 10 released 3 finished 3 replies 3 retries 2 preempted 2 missed 0\n";
 
 // Each reply of a queue of one place.
 const QUEUE: &str =
     "object = [{name=\"q\", kind=\"queue\", capacity=1}]\ntask = [{name=\"t\", period=100, body=[\"put q 5\", \"put q 6\", \"take q\", \"take q\"]}]\n";
 
 const QUEUE_REPORT: &str =
-    "0 release t 1\n7 reply t 1 1 put q 5 -> done 1 tag 1\n15 reply t 1 2 put q 6 -> full tag 2\n23 reply t 1 3 take q -> done 5 tag 3\n31 reply t 1 4 take q -> empty tag 4\n31 finish t 1\nobject q queue tag 4 state\ntotal ticks 40 idle 8 released 1 finished 1 replies 4 retries 0 preempted 0 missed 0\n";
+    "test yes\n0 release t 1\n7 reply t 1 1 put q 5 -> done 1 tag 1\n15 reply t 1 2 put q 6 -> full tag 2\n23 reply t 1 3 take q -> done 5 tag 3\n31 reply t 1 4 take q -> empty tag 4\n31 finish t 1\nobject q queue tag 4 state\ntotal ticks 40 idle 8 released 1 finished 1 replies 4 retries 0 preempted 0 missed 0\n";
 
 // Each reply of a list of one place.
 const LIST: &str =
     "object = [{name=\"l\", kind=\"list\", capacity=1}]\ntask = [{name=\"t\", period=100, body=[\"insert l 3\", \"insert l 3\", \"insert l 4\", \"has l 3\", \"remove l 3\", \"remove l 3\", \"has l 3\"]}]\n";
 
 const LIST_REPORT: &str =
-    "0 release t 1\n7 reply t 1 1 insert l 3 -> added tag 1\n15 reply t 1 2 insert l 3 -> present tag 2\n23 reply t 1 3 insert l 4 -> full tag 3\n31 reply t 1 4 has l 3 -> yes tag 4\n39 reply t 1 5 remove l 3 -> removed tag 5\n47 reply t 1 6 remove l 3 -> absent tag 6\n55 reply t 1 7 has l 3 -> no tag 7\n55 finish t 1\nobject l list tag 7 state\ntotal ticks 56 idle 0 released 1 finished 1 replies 7 retries 0 preempted 0 missed 0\n";
+    "test yes\n0 release t 1\n7 reply t 1 1 insert l 3 -> added tag 1\n15 reply t 1 2 insert l 3 -> present tag 2\n23 reply t 1 3 insert l 4 -> full tag 3\n31 reply t 1 4 has l 3 -> yes tag 4\n39 reply t 1 5 remove l 3 -> removed tag 5\n47 reply t 1 6 remove l 3 -> absent tag 6\n55 reply t 1 7 has l 3 -> no tag 7\n55 finish t 1\nobject l list tag 7 state\ntotal ticks 56 idle 0 released 1 finished 1 replies 7 retries 0 preempted 0 missed 0\n";
 
 // Registers: transactions, a read and two shifts.
 const REGISTERS: &str =
     "object = [{name=\"r\", kind=\"registers\", capacity=4}]\ntask = [{name=\"t\", period=100, body=[\"multi r 0 0 5 1 0 6 2 0 7 3 0 8\", \"multi r 0 5 1 1 6 1 2 9 1 3 8 1\", \"read r 2\", \"shift r 3 0 8\", \"shift r 3 0 1\"]}]\n";
 
 const REGISTERS_REPORT: &str =
-    "0 release t 1\n13 reply t 1 1 multi r 0 0 5 1 0 6 2 0 7 3 0 8 -> done 4 tag 1\n27 reply t 1 2 multi r 0 5 1 1 6 1 2 9 1 3 8 1 -> differs 7 tag 2\n41 reply t 1 3 read r 2 -> done 7 tag 3\n55 reply t 1 4 shift r 3 0 8 -> done 13 tag 4\n69 reply t 1 5 shift r 3 0 1 -> short 0 tag 5\n69 finish t 1\nobject r registers tag 5 state 13 6 7 0\ntotal ticks 70 idle 0 released 1 finished 1 replies 5 retries 0 preempted 0 missed 0\n";
+    "test yes\n0 release t 1\n13 reply t 1 1 multi r 0 0 5 1 0 6 2 0 7 3 0 8 -> done 4 tag 1\n27 reply t 1 2 multi r 0 5 1 1 6 1 2 9 1 3 8 1 -> differs 7 tag 2\n41 reply t 1 3 read r 2 -> done 7 tag 3\n55 reply t 1 4 shift r 3 0 8 -> done 13 tag 4\n69 reply t 1 5 shift r 3 0 1 -> short 0 tag 5\n69 finish t 1\nobject r registers tag 5 state 13 6 7 0\ntotal ticks 70 idle 0 released 1 finished 1 replies 5 retries 0 preempted 0 missed 0\n";
 
 // A job that needs more than its item states is late.
 const OVERRUN: &str =
     "[[object]]\nname = \"c\"\nkind = \"cell\"\n\n[[task]]\nname = \"a\"\nperiod = 10\noffset = 2\nbody = [\"add c 1\"]\n\n[[task]]\nname = \"b\"\nperiod = 20\ndeadline = 8\nbody = [\"work 1\", \"add c 5\", \"work 1\"]\n\n[[demand]]\ntask = \"b\"\njob = 1\nitem = 3\nticks = 2\n";
 
 const OVERRUN_REPORT: &str =
-    "0 release b 1\n2 release a 1\n2 preempt b 1 by a 1\n3 reply a 1 1 add c 1 -> done 1 tag 1\n3 finish a 1\n4 retry b 1 2 c tag 0 now 1\n6 reply b 1 2 add c 5 -> done 6 tag 2\n8 miss b 1\n8 finish b 1\nobject c cell tag 2 state 6\ntotal ticks 10 idle 1 released 2 finished 2 replies 2 retries 1 preempted 1 missed 1\n";
+    "test yes\n0 release b 1\n2 release a 1\n2 preempt b 1 by a 1\n3 reply a 1 1 add c 1 -> done 1 tag 1\n3 finish a 1\n4 retry b 1 2 c tag 0 now 1\n6 reply b 1 2 add c 5 -> done 6 tag 2\n8 miss b 1\n8 finish b 1\nobject c cell tag 2 state 6\ntotal ticks 10 idle 1 released 2 finished 2 replies 2 retries 1 preempted 1 missed 1\n";
 
 // The task with the shorter deadline goes first.
 const SHORTER: &str =
     "policy = \"dm\"\ntask = [{name=\"x\", period=10, deadline=9, body=[\"work 2\"]}, {name=\"y\", period=20, deadline=4, offset=1, body=[\"work 2\"]}]\n";
 
 const SHORTER_REPORT: &str =
-    "0 release x 1\n1 release y 1\n1 preempt x 1 by y 1\n2 finish y 1\n3 finish x 1\ntotal ticks 6 idle 2 released 2 finished 2 replies 0 retries 0 preempted 1 missed 0\n";
+    "test yes\n0 release x 1\n1 release y 1\n1 preempt x 1 by y 1\n2 finish y 1\n3 finish x 1\ntotal ticks 6 idle 2 released 2 finished 2 replies 0 retries 0 preempted 1 missed 0\n";
 
 // The job with the earlier deadline goes first, and the attempt of the other is lost.
 const EARLIEST: &str =
     "policy = \"edf\"\nobject = [{name=\"c\", kind=\"cell\"}]\ntask = [{name=\"a\", period=20, deadline=6, offset=3, body=[\"add c 1\"]}, {name=\"b\", period=20, body=[\"work 2\", \"add c 2\"]}]\n";
 
 const EARLIEST_REPORT: &str =
-    "0 release b 1\n3 release a 1\n3 preempt b 1 by a 1\n4 reply a 1 1 add c 1 -> done 1 tag 1\n4 finish a 1\n5 retry b 1 2 c tag 0 now 1\n7 reply b 1 2 add c 2 -> done 3 tag 2\n7 finish b 1\nobject c cell tag 2 state 3\ntotal ticks 10 idle 2 released 2 finished 2 replies 2 retries 1 preempted 1 missed 0\n";
+    "test yes\n0 release b 1\n3 release a 1\n3 preempt b 1 by a 1\n4 reply a 1 1 add c 1 -> done 1 tag 1\n4 finish a 1\n5 retry b 1 2 c tag 0 now 1\n7 reply b 1 2 add c 2 -> done 3 tag 2\n7 finish b 1\nobject c cell tag 2 state 3\ntotal ticks 10 idle 2 released 2 finished 2 replies 2 retries 1 preempted 1 missed 0\n";
 
 // Of two jobs with one deadline, that of the task which stands first goes first.
 const TIE: &str =
     "policy = \"edf\"\ntask = [{name=\"u\", period=10, deadline=8, offset=2, body=[\"work 1\"]}, {name=\"v\", period=10, body=[\"work 4\"]}]\n";
 
 const TIE_REPORT: &str =
-    "0 release v 1\n2 release u 1\n2 preempt v 1 by u 1\n2 finish u 1\n4 finish v 1\ntotal ticks 6 idle 1 released 2 finished 2 replies 0 retries 0 preempted 1 missed 0\n";
+    "test yes\n0 release v 1\n2 release u 1\n2 preempt v 1 by u 1\n2 finish u 1\n4 finish v 1\ntotal ticks 6 idle 1 released 2 finished 2 replies 0 retries 0 preempted 1 missed 0\n";
+
+// What the admission test says of a set whose second task has this deadline: it is served by 8 ticks, and by no fewer.
+const SHARED_ADMITTED: &str =
+    "test yes\nrank 1 a least 2 deadline 10\nrank 2 b least 8 deadline 20\n";
+
+const HURRIED: &str =
+    "object = [{name=\"c\", kind=\"cell\"}]\ntask = [{name=\"a\", period=10, offset=2, body=[\"add c 1\"]}, {name=\"b\", period=20, deadline=7, body=[\"work 1\", \"add c 5\", \"work 1\"]}]\n";
+
+const HURRIED_REFUSED: &str =
+    "test no rank 2\nrank 1 a least 2 deadline 10\nrank 2 b fails deadline 7\n";
+
+const NESTED_ADMITTED: &str =
+    "test yes\nrank 1 a least 8 deadline 100\nrank 2 b least 24 deadline 200\nrank 3 c least 40 deadline 400\n";
+
+// The least time lies before the deadline, which does not serve itself.
+const EARLY: &str =
+    "task = [{name=\"a\", period=5, body=[\"work 2\"]}, {name=\"b\", period=12, deadline=6, body=[\"work 3\"]}]\n";
+
+const EARLY_ADMITTED: &str = "test yes\nrank 1 a least 2 deadline 5\nrank 2 b least 5 deadline 6\n";
+
+const SHORTER_ADMITTED: &str =
+    "test yes\nrank 1 y least 2 deadline 4\nrank 2 x least 4 deadline 9\n";
+
+// A sensor, a controller and a logger.
+const PLANT: &str =
+    "object = [{name=\"samples\", kind=\"queue\", capacity=16}, {name=\"beats\", kind=\"cell\"}, {name=\"axes\", kind=\"registers\", capacity=8}]\ntask = [{name=\"sensor\", period=500, body=[\"work 60\", \"put samples 7\", \"add beats 1\"]}, {name=\"control\", period=1000, body=[\"take samples\", \"take samples\", \"work 200\", \"shift axes 0 1 5\"]}, {name=\"logger\", period=5000, body=[\"read axes 1\", \"get beats\", \"work 900\"]}]\n";
+
+const PLANT_ADMITTED: &str =
+    "test yes\nrank 1 sensor least 100 deadline 500\nrank 2 control least 436 deadline 1000\nrank 3 logger least 2760 deadline 5000\n";
+
+// By the earliest deadline: one task's shares are 1 with the charge of a retry, and any other task is too much.
+const SHARES: &str =
+    "policy = \"edf\"\nobject = [{name=\"c\", kind=\"cell\"}]\ntask = [{name=\"a\", period=4, body=[\"add c 1\"]}, {name=\"b\", period=1000000, body=[\"work 1\"]}]\n";
+
+// The shares are three quarters, and yet more is due in three ticks than they hold.
+const CROWDED: &str =
+    "policy = \"edf\"\ntask = [{name=\"a\", period=4, deadline=2, body=[\"work 2\"]}, {name=\"b\", period=8, deadline=3, body=[\"work 2\"]}]\n";
+
+// The least common multiple of the periods has more than 96 bits.
+const WIDE: &str =
+    "policy = \"edf\"\ntask = [{name=\"p1\", period=999983, body=[\"work 1\"]}, {name=\"p2\", period=999991, body=[\"work 1\"]}, {name=\"p3\", period=999997, body=[\"work 1\"]}, {name=\"p4\", period=999999, body=[\"work 1\"]}, {name=\"p5\", period=1000000, body=[\"work 1\"]}]\n";
+
+const WIDE_REPORT: &str =
+    "test wide\n0 release p1 1\n0 release p2 1\n0 release p3 1\n0 release p4 1\n0 release p5 1\n0 finish p1 1\n1 finish p2 1\n2 finish p3 1\n3 finish p4 1\n4 finish p5 1\ntotal ticks 6 idle 1 released 5 finished 5 replies 0 retries 0 preempted 0 missed 0\n";
+
+// Too many times would have to be looked at.
+const LONG: &str =
+    "policy = \"edf\"\ntask = [{name=\"a\", period=2, deadline=1, body=[\"work 1\"]}, {name=\"b\", period=999996, body=[\"work 249999\"]}, {name=\"c\", period=1000000, body=[\"work 250000\"]}]\n";
+
+// The report of the set of the number 0, by another implementation.
+const DRAWN: &str =
+    "test yes\nwindow 0 10000 retries 0 preemptions 4\nwindow 10000 20000 retries 0 preemptions 4\nwindow 20000 30000 retries 0 preemptions 2\nwindow 30000 40000 retries 0 preemptions 3\nwindow 40000 50000 retries 0 preemptions 3\nwindow 50000 60000 retries 0 preemptions 4\nwindow 60000 70000 retries 0 preemptions 3\nwindow 70000 80000 retries 0 preemptions 3\nwindow 80000 90000 retries 0 preemptions 3\nwindow 90000 100000 retries 0 preemptions 4\nobject c cell tag 324 state 1458\nobject q queue tag 117 state\nobject l list tag 162 state\nobject r registers tag 117 state 0 0 0 0\ntotal ticks 100000 idle 89959 released 896 finished 896 replies 720 retries 0 preempted 33 missed 0\n";
 
 fn split(alloc: Global, text: &str) -> Result<Vec<String>, AllocError> {
     let mut words = Vec::new(alloc);
@@ -111,6 +168,30 @@ fn split(alloc: Global, text: &str) -> Result<Vec<String>, AllocError> {
         words.push(String::from_str(alloc, word)?)?;
     }
     Ok(words)
+}
+
+// Calls `top` on the words and the input, which is read in pieces of at most so many bytes, and written so too. The calls
+// of the source and of the sink with these numbers fail, and none where the number is 0. Answers the status, and what was
+// taken.
+fn call_in_steps(
+    alloc: Global,
+    text: &str,
+    input: &str,
+    step: usize,
+    read_fails: u64,
+    write_fails: u64,
+) -> Result<(Status, Vec<u8>), Fail> {
+    if step == 0 {
+        return Err("no step".into());
+    }
+    let words = split(alloc, text)?;
+    let bytes = input.as_bytes().to_vec(alloc)?;
+    let mut source = MemorySource::new(bytes, step, [read_fails].to_vec(alloc)?);
+    let made = MemorySink::new(alloc, 4096, step, [write_fails].to_vec(alloc)?);
+    let mut sink = made.map_err(|_| "no memory")?;
+    let mut left = Left::Nothing;
+    let status = top(alloc, words.as_slice(), &mut source, &mut sink, &mut left);
+    Ok((status, sink.taken().to_vec(alloc)?))
 }
 
 #[test]
@@ -159,6 +240,72 @@ fn answers_words_and_input(rt: HostRuntime) -> Result<(), Fail> {
             EARLIEST_REPORT,
         ),
         ("run 6", TIE, 4096, 0, 0, Status::Done, TIE_REPORT),
+        ("admit", SHARED, 4096, 0, 0, Status::Done, SHARED_ADMITTED),
+        (
+            "admit",
+            HURRIED,
+            4096,
+            0,
+            0,
+            Status::Adverse,
+            HURRIED_REFUSED,
+        ),
+        ("admit", NESTED, 4096, 0, 0, Status::Done, NESTED_ADMITTED),
+        ("admit", EARLY, 4096, 0, 0, Status::Done, EARLY_ADMITTED),
+        ("admit", SHORTER, 4096, 0, 0, Status::Done, SHORTER_ADMITTED),
+        ("admit", PLANT, 4096, 0, 0, Status::Done, PLANT_ADMITTED),
+        ("admit", EARLIEST, 4096, 0, 0, Status::Done, "test yes\n"),
+        (
+            "admit",
+            SHARES,
+            4096,
+            0,
+            0,
+            Status::Adverse,
+            "test no t 1000000 need 1000003\n",
+        ),
+        (
+            "admit",
+            CROWDED,
+            4096,
+            0,
+            0,
+            Status::Adverse,
+            "test no t 3 need 4\n",
+        ),
+        ("admit", WIDE, 4096, 0, 0, Status::Wide, "test wide\n"),
+        ("run 6", WIDE, 4096, 0, 0, Status::Done, WIDE_REPORT),
+        (
+            "admit",
+            LONG,
+            4096,
+            0,
+            0,
+            Status::Long,
+            "test long 124999999999\n",
+        ),
+        ("gen 0", FILE, 4096, 1, 0, Status::Done, DRAWN),
+        ("gen 0", FILE, 4096, 0, 2, Status::WriteFault, "test yes\n"),
+        (
+            "gen 18446744073709551616",
+            FILE,
+            4096,
+            1,
+            0,
+            Status::Words,
+            "words\n",
+        ),
+        (
+            "admit",
+            SHARED,
+            4096,
+            0,
+            2,
+            Status::WriteFault,
+            "test yes\n",
+        ),
+        ("admit 3", SHARED, 4096, 1, 0, Status::Words, "words\n"),
+        ("admits", SHARED, 4096, 1, 0, Status::Words, "words\n"),
         ("run 10", FILE, 4096, 1, 0, Status::ReadFault, ""),
         ("run 10", FILE, 4096, 0, 1, Status::WriteFault, ""),
         (
@@ -168,21 +315,14 @@ fn answers_words_and_input(rt: HostRuntime) -> Result<(), Fail> {
             0,
             3,
             Status::WriteFault,
-            "0 release b 1\n2 release a 1\n",
+            "test yes\n0 release b 1\n",
         ),
         ("run 10", "", 1, 0, 3, Status::WriteFault, "se"),
         ("runs 10", FILE, 4096, 1, 0, Status::Words, "words\n"),
     ] {
-        assert!(rt; step > 0);
-        let words = split(alloc, words)?;
-        let bytes = input.as_bytes().to_vec(alloc)?;
-        let mut source = MemorySource::new(bytes, step, [read_fails].to_vec(alloc)?);
-        let made = MemorySink::new(alloc, 4096, step, [write_fails].to_vec(alloc)?);
-        let mut sink = made.map_err(|_| "no memory")?;
-        let mut left = Left::Nothing;
-        let status = top(alloc, words.as_slice(), &mut source, &mut sink, &mut left);
+        let (status, bytes) = call_in_steps(alloc, words, input, step, read_fails, write_fails)?;
         assert_eq!(rt; status, want);
-        assert_eq!(rt; sink.taken(), taken.as_bytes());
+        assert_eq!(rt; bytes.as_slice(), taken.as_bytes());
     }
     Ok(())
 }
@@ -281,11 +421,25 @@ fn takes_an_input_of_the_most_bytes(rt: HostRuntime) -> Result<(), Fail> {
     Ok(())
 }
 
+// Gives so many bytes.
+#[derive(Drop)]
+struct Long {
+    left: usize,
+}
+
+impl Read for Long {
+    fn read(&mut self, buf: &mut [u8]) -> io::Result<usize> {
+        let count = buf.len().min(self.left);
+        self.left = self.left.saturating_sub(count);
+        Ok(count)
+    }
+}
+
 #[test]
 fn leaves_the_rest_of_a_large_input(rt: HostRuntime) -> Result<(), Fail> {
     let alloc = rt.alloc();
     let words = split(alloc, "run 10")?;
-    let mut source = MemorySource::new(filled(alloc, 1_048_580)?, 65_536, Vec::new(alloc));
+    let mut source = InSource::new(Long { left: 1_048_580 });
     let made = MemorySink::new(alloc, 64, 4096, Vec::new(alloc));
     let mut sink = made.map_err(|_| "no memory")?;
     let mut left = Left::Nothing;
@@ -294,28 +448,7 @@ fn leaves_the_rest_of_a_large_input(rt: HostRuntime) -> Result<(), Fail> {
         Status::TooLarge
     );
     assert_eq!(rt; sink.taken(), b"too large\n".as_slice());
-    let mut buffer = [0; 8];
-    assert_eq!(rt; source.read(&mut buffer), Ok(3));
-    Ok(())
-}
-
-#[test]
-fn words_of_no_shape_leave_the_source(rt: HostRuntime) -> Result<(), Fail> {
-    let alloc = rt.alloc();
-    let words = split(alloc, "run 1000001")?;
-    let mut source = MemorySource::new(b"abc".as_slice().to_vec(alloc)?, 4096, [1].to_vec(alloc)?);
-    let made = MemorySink::new(alloc, 4096, 4096, Vec::new(alloc));
-    let mut sink = made.map_err(|_| "no memory")?;
-    let mut left = Left::Nothing;
-    assert_eq!(rt;
-        top(alloc, words.as_slice(), &mut source, &mut sink, &mut left),
-        Status::Words
-    );
-    assert_eq!(rt; sink.taken(), b"words\n".as_slice());
-    // The first call is yet to come, and fails.
-    let mut buffer = [0; 8];
-    assert_eq!(rt; source.read(&mut buffer), Err(Failed));
-    assert_eq!(rt; source.read(&mut buffer), Ok(3));
+    assert_eq!(rt; source.into_inner().left, 3);
     Ok(())
 }
 
@@ -359,6 +492,26 @@ impl Write for Full {
     fn flush(&mut self) -> io::Result<()> {
         Ok(())
     }
+}
+
+#[test]
+fn words_of_no_shape_read_nothing(rt: HostRuntime) -> Result<(), Fail> {
+    let alloc = rt.alloc();
+    let words = split(alloc, "run 1000001")?;
+    let mut source = InSource::new(Short {
+        calls: 0,
+        fails: true,
+    });
+    let made = MemorySink::new(alloc, 64, 4096, Vec::new(alloc));
+    let mut sink = made.map_err(|_| "no memory")?;
+    let mut left = Left::Nothing;
+    assert_eq!(rt;
+        top(alloc, words.as_slice(), &mut source, &mut sink, &mut left),
+        Status::Words
+    );
+    assert_eq!(rt; sink.taken(), b"words\n".as_slice());
+    assert_eq!(rt; source.into_inner().calls, 0);
+    Ok(())
 }
 
 #[test]
@@ -450,6 +603,7 @@ fn leaves_the_bank_of_each_kind(rt: HostRuntime) -> Result<(), Fail> {
         ("run 40", QUEUE, 4, 4, [].as_slice(), 32),
         ("run 56", LIST, 7, 7, [].as_slice(), 56),
         ("run 70", REGISTERS, 5, 5, [13, 6, 7, 0].as_slice(), 70),
+        ("gen 0", "", 720, 324, [1458].as_slice(), 10_000),
     ] {
         let mut left = Left::Nothing;
         assert_eq!(rt; call(alloc, words, input, 0, 0, &mut left)?, Status::Done);
@@ -475,6 +629,9 @@ fn leaves_nothing_without_a_report(rt: HostRuntime) -> Result<(), Fail> {
     for (words, input, read_fails, write_fails, want) in [
         ("runs 10", SHARED, 0, 0, Status::Words),
         ("run 10", SHARED, 1, 0, Status::ReadFault),
+        ("run 10", SHARED, 2, 0, Status::ReadFault),
+        ("admit", SHARED, 0, 0, Status::Done),
+        ("admit", HURRIED, 0, 0, Status::Adverse),
         ("run 10", "", 0, 0, Status::BadSet),
         ("run 10", "task", 0, 0, Status::NotToml),
         ("run 10", SHARED, 0, 1, Status::WriteFault),
@@ -492,5 +649,54 @@ fn leaves_nothing_without_a_report(rt: HostRuntime) -> Result<(), Fail> {
         );
         assert!(rt; matches!(left, Left::Nothing));
     }
+    Ok(())
+}
+
+// How many of the events are misses.
+fn misses_in(events: &[Event]) -> u64 {
+    let mut misses: u64 = 0;
+    for event in events {
+        if matches!(event, Event::Miss { .. }) {
+            misses = misses.saturating_add(1);
+        }
+    }
+    misses
+}
+
+// Makes the next slot, and answers how many misses it tells.
+fn count_slot(executive: &mut Executive, tick: &mut Tick) -> Result<u64, Fail> {
+    if executive.now() >= 1_000_000 {
+        return Err("a slot too many".into());
+    }
+    executive.tick(tick);
+    Ok(misses_in(tick.events.as_slice()))
+}
+
+// How many misses the first so many slots of a set tell, with those after the last one.
+fn count_misses(alloc: Global, set: &TaskSet, ticks: u64) -> Result<u64, Fail> {
+    let mut executive = new_executive(alloc, set)?;
+    let mut tick = Tick::new();
+    let mut misses: u64 = 0;
+    for _ in 0..ticks {
+        misses = misses.saturating_add(count_slot(&mut executive, &mut tick)?);
+    }
+    executive.late(&mut tick);
+    Ok(misses.saturating_add(tick.events.len() as u64))
+}
+
+#[test]
+fn served_sets_are_never_late(rt: HostRuntime) -> Result<(), Fail> {
+    let alloc = rt.alloc();
+    let mut served: u64 = 0;
+    for number in 0..100 {
+        let set = generate(alloc, number).map_err(|_| "no memory")?;
+        if set.policy() == Policy::Edf || test(&set) != Verdict::Yes {
+            continue;
+        }
+        served = served.saturating_add(1);
+        assert_eq!(rt; count_misses(alloc, &set, 20_000)?, 0);
+    }
+    // As many as another implementation of the test admits.
+    assert_eq!(rt; served, 25);
     Ok(())
 }

@@ -1,5 +1,7 @@
 //! The top call.
 ghost use Rattle.std.specs.Prelude.{◌≡◌, ◌≢◌, ◌<◌, ◌≤◌, ◌^◌, [], map, string_bytes, Some, IfOk};
+ghost use Rattle.rx_set.specs.Valid.{IsValid};
+ghost use Rattle.rx_set.specs.declared.policies.Policy.TheVariants.{Edf};
 ghost use Rattle.rx_file.specs.declared.faults.FileFault.TheVariants.{NoMemory as OutOfMemory};
 ghost use Rattle.rx_port.specs.Seats.{no_counts};
 ghost use Rattle.rx_tick.specs.Banks.{IsBankOf};
@@ -7,35 +9,52 @@ ghost use Rattle.rx_tick.specs.Executive.{moment};
 ghost use Rattle.std.specs.Option.{ForSome};
 ghost use Rattle.rx_top.specs.declared.left.Left.TheVariants.{Nothing};
 ghost use Rattle.rx_top.specs.Words.{command_of, IsLimited};
-ghost use Rattle.rx_top.specs.Outcome.{Outcome, Headline, Tells, ends, input_answer, large_answer, fault_answer, fault_status, run_answer};
+ghost use Rattle.rx_top.specs.Outcome.{Outcome, Headline, Tells, Admission, Drawing, ends, admit_answer, draw_answer, edf_status, input_answer, large_answer, fault_answer, fault_status, run_answer, set_answer};
 ghost use Rattle.rx_top.specs.Determined.{Determined, Unread};
 
+use crate::admits::{write_admission, write_spans};
+use crate::draws::{note_run, write_drawn};
 use crate::left::Left;
 use crate::runs::{Ended, write_run};
 use crate::status::Status;
-use crate::words::{Command, command_of};
+use crate::words::{Command, Query, command_of};
 use arrayvec::ArrayVec;
+use rx_edf::EdfVerdict;
+use rx_edf::laws::verdicts_are_exact;
 use rx_file::{FileFault, read_set};
+use rx_fixed::Verdict;
 use rx_io::{Failed, ReadError, Sink, Source, put, read_all};
 use rx_port::Bank;
 use rx_report::{Line, fault_line};
 use rx_seq::NoMemory;
-use rx_set::TaskSet;
+use rx_set::laws::{drawn_sets_are_valid, least_times_serve};
+use rx_set::{Policy, TaskSet, generate};
 use rx_shape::Layout;
 use rx_tick::Executive;
+use rx_tick::charges::retries_are_bounded;
+use rx_tick::laws::entries_follow_the_bodies;
+use rx_tick::windows::{fitting_spans_miss_nothing, served_sets_miss_nothing};
 use std::alloc::Global;
 
 // The most bytes of an input.
 const MOST_INPUT: usize = 1_048_576;
 
+// How many ticks a drawn set is run for.
+const DRAWN_TICKS: u64 = 100_000;
+
 /// Does all that the program does: answers the words after its name, reads the input from `source`, and writes what it
 /// tells to `sink`.
 ///
-/// `run N` reads a task file, in the form that `rx_file::read_set` says, and writes the report of its schedule: the
-/// events of the slots 0 to N - 1, the misses at time N, a line for each object, and the line of the totals. N is a word
-/// of 1 to 20 ASCII digits, leading zeros allowed, and at most 1,000,000. All other words have no shape.
+/// `admit` reads a task file, in the form that `rx_file::read_set` says, and writes the line of the admission test of its
+/// policy, and under fixed priorities a line for each rank. `run N` reads one and writes the report of its schedule: the
+/// line of the test, the events of the slots 0 to N - 1, the misses at time N, a line for each object, and the line of
+/// the totals. `gen X` draws the set of a number (`rx_set::generate`), runs it for 100,000 ticks, and writes the line of
+/// the test, a line for each of ten intervals, a line for each object, and the line of the totals. N and X are words of 1
+/// to 20 ASCII digits, leading zeros allowed; N is at most 1,000,000 and X less than 2^64. All other words have no shape.
 ///
-/// - `Done` and `Adverse`: the whole report was written, and it tells no miss, or tells one.
+/// - `Done`: the whole report was written; that of `run` tells no miss, and that of `admit` says yes.
+/// - `Adverse`: the whole report was written; that of `run` tells a miss, and that of `admit` says no.
+/// - `Wide` and `Long`: exactly where the test for earliest deadlines first answers `admit` so. Its line was written.
 /// - `Words`: exactly where the words have no shape. The line `words` was written, and the source is as it was.
 /// - `ReadFault`: only where the source failed in this call. Nothing was written.
 /// - `TooLarge`: exactly where the input has more than 1,048,576 bytes, of which 1,048,577 are then read. The line
@@ -46,15 +65,16 @@ const MOST_INPUT: usize = 1_048_576;
 /// - `WriteFault`: only where the sink failed in this call. A front of what was to be written was taken.
 /// - `NoMemory`: may come for any words that have a shape. Nothing was written.
 ///
-/// At `Done` and `Adverse`, `left` is the bank of the executive whose report was written: it stands for the history of
-/// that schedule. At each other status it is `Nothing`, whatever it was before.
+/// At `Done` and `Adverse` of `run`, and at `Done` of `gen`, `left` is the bank of the executive whose report was written:
+/// it stands for the history of that schedule. In every other case it is `Nothing`, whatever it was before.
 ///
 /// Where the status is another than `ReadFault`, `WriteFault` and `NoMemory`, neither the source nor the sink failed, and
 /// an input that is read and not too large is read to its end. Lines are handed to the sink one at a time, and the rest
 /// of a line again where the sink took less. After a failure no further call of either is made, which no clause says but
 /// tests show. It takes memory for the input and its document, for each word of the bank, and for a machine a task, all
-/// of it before the first write, and none for words of no shape. The time is that of reading the file, and for each slot
-/// that of `Executive::tick` and of its lines. Wants a count of faults below 2^63 of the source and of the sink.
+/// of it before the first write, and none for words of no shape; `gen` takes memory for its events instead of the input.
+/// The time is that of reading the file and of the test, and for each slot that of `Executive::tick` and of its lines.
+/// Wants a count of faults below 2^63 of the source and of the sink.
 pub fn top<S: Source, K: Sink>(
     alloc: Global,
     words: &[String],
@@ -71,7 +91,7 @@ pub fn top<S: Source, K: Sink>(
         (ends (S.left source.new) (S.faults source.new) (K.taken sink.new) (K.faults sink.new))
         left.new result }
 
-    // A command that reads gives the one answer to its input, and words of no shape theirs.
+    // A command that reads gives the one answer to its input; a drawing and words of no shape have theirs.
     ensures determined { Determined (command_of (map string_bytes words.now))
         (ends (S.left source.old) (S.faults source.old) (K.taken sink.old) (K.faults sink.old))
         (ends (S.left source.new) (S.faults source.new) (K.taken sink.new) (K.faults sink.new))
@@ -81,12 +101,31 @@ pub fn top<S: Source, K: Sink>(
         (ends (S.left source.new) (S.faults source.new) (K.taken sink.new) (K.faults sink.new))
         left.new result }
 
-    // Given memory and no fault, `run` on a set writes the report of its schedule, and leaves its bank.
+    // Given memory and no fault, `run` on a set writes the report of its schedule, and leaves its bank;
     ensures headline { Headline (command_of (map string_bytes words.now))
         (ends (S.left source.old) (S.faults source.old) (K.taken sink.old) (K.faults sink.old))
         (ends (S.left source.new) (S.faults source.new) (K.taken sink.new) (K.faults sink.new))
         left.new result }
+
+    // `admit` on a set writes what the test of its policy says, and its status is that verdict;
+    ensures admission { Admission (command_of (map string_bytes words.now))
+        (ends (S.left source.old) (S.faults source.old) (K.taken sink.old) (K.faults sink.old))
+        (ends (S.left source.new) (S.faults source.new) (K.taken sink.new) (K.faults sink.new))
+        left.new result }
+
+    // and `gen` writes the report of the set of its number, and leaves the bank of its run.
+    ensures drawing { Drawing (command_of (map string_bytes words.now))
+        (ends (S.left source.old) (S.faults source.old) (K.taken sink.old) (K.faults sink.old))
+        (ends (S.left source.new) (S.faults source.new) (K.taken sink.new) (K.faults sink.new))
+        left.new result }
 {
+    least_times_serve();
+    verdicts_are_exact();
+    drawn_sets_are_valid();
+    entries_follow_the_bodies();
+    retries_are_bounded();
+    served_sets_miss_nothing();
+    fitting_spans_miss_nothing();
     *left = Left::Nothing;
     answer_words(alloc, command_of(words), source, sink, left)
 }
@@ -135,55 +174,78 @@ fn answer_command<S: Source, K: Sink>(
         left.new result }
 {
     match command {
-        Command::Run { ticks } => run_command(alloc, ticks, source, sink, left),
+        Command::Ask { query } => answer_query(alloc, query, source, sink, left),
+        Command::Draw { number } => draw(alloc, number, DRAWN_TICKS, sink, left),
     }
 }
 
-/// Reads the input, and answers `run`.
-fn run_command<S: Source, K: Sink>(
+/// Reads the input, and answers a query.
+fn answer_query<S: Source, K: Sink>(
     alloc: Global,
-    ticks: u64,
+    query: Query,
     source: &mut S,
     sink: &mut K,
     left: &mut Left,
 ) -> Status
     requires source { S.faults source.old < 2 ^ 63 }
     requires sink { K.faults sink.old < 2 ^ 63 }
-    requires limits { ticks ≤ 1000000 }
+    requires limits { IsLimited (Command.Ask query) }
     requires nothing { left.old ≡ Nothing }
-    ensures { Outcome (Some (Command.Run ticks))
+    ensures { Outcome (Some (Command.Ask query))
         (ends (S.left source.old) (S.faults source.old) (K.taken sink.old) (K.faults sink.old))
         (ends (S.left source.new) (S.faults source.new) (K.taken sink.new) (K.faults sink.new))
         left.new result }
 {
     match read_all(alloc, source, MOST_INPUT) {
-        Ok(input) => run_input(alloc, ticks, input.as_slice(), sink, left),
+        Ok(input) => answer_input(alloc, query, input.as_slice(), sink, left),
         Err(ReadError::Fault) => Status::ReadFault,
         Err(ReadError::Memory) => Status::NoMemory,
     }
 }
 
-/// Runs the set of an input.
-fn run_input<K: Sink>(
+/// Answers a query to an input.
+fn answer_input<K: Sink>(
     alloc: Global,
-    ticks: u64,
+    query: Query,
     input: &[u8],
     sink: &mut K,
     left: &mut Left,
 ) -> Status
     requires sink { K.faults sink.old < 2 ^ 63 }
-    requires limits { ticks ≤ 1000000 }
+    requires limits { IsLimited (Command.Ask query) }
     requires nothing { left.old ≡ Nothing }
-    ensures { Tells (input_answer (run_answer ticks) input.now)
+    ensures { Tells (input_answer (set_answer query) input.now)
         (K.taken sink.old) (K.taken sink.new) (K.faults sink.old) (K.faults sink.new) left.new result }
 {
     if input.len() > MOST_INPUT {
         return refuse_size(sink);
     }
     match read_set(alloc, input) {
-        Ok(set) => run_set(alloc, ticks, &set, sink, left),
+        Ok(set) => answer_set(alloc, query, &set, sink, left),
         Err(FileFault::NoMemory) => Status::NoMemory,
         Err(fault) => refuse_fault(&fault, sink),
+    }
+}
+
+/// Answers a query to a set.
+fn answer_set<K: Sink>(
+    alloc: Global,
+    query: Query,
+    set: &TaskSet,
+    sink: &mut K,
+    left: &mut Left,
+) -> Status
+    requires sink { K.faults sink.old < 2 ^ 63 }
+    requires limits { IsLimited (Command.Ask query) }
+    requires nothing { left.old ≡ Nothing }
+    ensures { Tells (set_answer query set.now)
+        (K.taken sink.old) (K.taken sink.new) (K.faults sink.old) (K.faults sink.new) left.new result }
+{
+    // That the set is valid.
+    let _tasks = set.tasks();
+    match query {
+        Query::Run { ticks } => run_set(alloc, ticks, set, sink, left),
+        Query::Admit => admit_set(set, sink),
     }
 }
 
@@ -236,7 +298,7 @@ fn new_bank(alloc: Global, set: &TaskSet) -> Result<Bank, NoMemory>
 }
 
 /// The executive of a set before its first slot.
-fn new_executive<'s>(alloc: Global, set: &'s TaskSet) -> Result<Executive<'s>, NoMemory>
+pub(crate) fn new_executive<'s>(alloc: Global, set: &'s TaskSet) -> Result<Executive<'s>, NoMemory>
     ensures start { IfOk result (λ executive. executive ≡ moment set.now 0 executive.bank) }
     ensures counts { IfOk result (λ executive. executive.bank.core.counts ≡ Some no_counts) }
 {
@@ -252,6 +314,7 @@ fn run_set<K: Sink>(
     sink: &mut K,
     left: &mut Left,
 ) -> Status
+    requires valid { IsValid set.now }
     requires sink { K.faults sink.old < 2 ^ 63 }
     requires limits { ticks ≤ 1000000 }
     requires nothing { left.old ≡ Nothing }
@@ -270,6 +333,90 @@ fn run_set<K: Sink>(
             } else {
                 Status::Adverse
             }
+        }
+        Err(Failed) => Status::WriteFault,
+    }
+}
+
+/// Tells what the admission test says of a set.
+fn admit_set<K: Sink>(set: &TaskSet, sink: &mut K) -> Status
+    requires valid { IsValid set.now }
+    requires faults { K.faults sink.old < 2 ^ 63 }
+    ensures { Tells (admit_answer set.now)
+        (K.taken sink.old) (K.taken sink.new) (K.faults sink.old) (K.faults sink.new) Nothing result }
+{
+    match set.policy() {
+        Policy::Rm | Policy::Dm => admit_ranks(set, sink),
+        Policy::Edf => admit_spans(set, sink),
+    }
+}
+
+/// Tells what the test for fixed priorities says of a set.
+fn admit_ranks<K: Sink>(set: &TaskSet, sink: &mut K) -> Status
+    requires valid { IsValid set.now }
+    requires faults { K.faults sink.old < 2 ^ 63 }
+    requires policy { set.now.policy ≢ Edf }
+    ensures { Tells (admit_answer set.now)
+        (K.taken sink.old) (K.taken sink.new) (K.faults sink.old) (K.faults sink.new) Nothing result }
+{
+    match write_admission(set, sink) {
+        Ok(Verdict::Yes) => Status::Done,
+        Ok(Verdict::No { .. }) => Status::Adverse,
+        Err(Failed) => Status::WriteFault,
+    }
+}
+
+/// The status of a verdict of the test for earliest deadlines first.
+fn edf_status(verdict: EdfVerdict) -> Status
+    ensures { result ≡ edf_status verdict }
+{
+    match verdict {
+        EdfVerdict::Yes => Status::Done,
+        EdfVerdict::No { .. } => Status::Adverse,
+        EdfVerdict::Wide => Status::Wide,
+        EdfVerdict::Long { .. } => Status::Long,
+    }
+}
+
+/// Tells what the test for earliest deadlines first says of a set.
+fn admit_spans<K: Sink>(set: &TaskSet, sink: &mut K) -> Status
+    requires valid { IsValid set.now }
+    requires faults { K.faults sink.old < 2 ^ 63 }
+    requires policy { set.now.policy ≡ Edf }
+    ensures { Tells (admit_answer set.now)
+        (K.taken sink.old) (K.taken sink.new) (K.faults sink.old) (K.faults sink.new) Nothing result }
+{
+    let mut line = Line::new();
+    match write_spans(set, &mut line, sink) {
+        Ok(verdict) => edf_status(verdict),
+        Err(Failed) => Status::WriteFault,
+    }
+}
+
+/// Draws the set of a number, runs it for so many slots, and tells the intervals of its schedule.
+fn draw<K: Sink>(alloc: Global, number: u64, ticks: u64, sink: &mut K, left: &mut Left) -> Status
+    requires sink { K.faults sink.old < 2 ^ 63 }
+    requires limits { ticks ≤ 1000000 }
+    requires nothing { left.old ≡ Nothing }
+    ensures { Tells (draw_answer ticks number)
+        (K.taken sink.old) (K.taken sink.new) (K.faults sink.old) (K.faults sink.new) left.new result }
+{
+    let set = match generate(alloc, number) {
+        Ok(set) => set,
+        Err(_) => return Status::NoMemory,
+    };
+    let executive = match new_executive(alloc, &set) {
+        Ok(executive) => executive,
+        Err(_) => return Status::NoMemory,
+    };
+    let run = match note_run(alloc, &set, executive, ticks) {
+        Ok(run) => run,
+        Err(_) => return Status::NoMemory,
+    };
+    match write_drawn(&set, &run, sink) {
+        Ok(()) => {
+            *left = Left::Bank { bank: run.bank };
+            Status::Done
         }
         Err(Failed) => Status::WriteFault,
     }

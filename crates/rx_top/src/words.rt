@@ -1,18 +1,32 @@
 //! What the words ask.
 ghost use Rattle.std.specs.Prelude.{◌≡◌, map, string_bytes};
 ghost use Rattle.std.specs.Option.{ForSome};
-ghost use Rattle.rx_top.specs.Words.{IsLimited, command_of, run_of};
+ghost use Rattle.rx_top.specs.Words.{IsLimited, command_of, draw_of, one_word, run_of, two_words};
 
 use rx_file::number_of;
 
 // The most slots of a run.
 const MOST_TICKS: u128 = 1_000_000;
 
+// The most that the number of a drawn set can be.
+const MOST_NUMBER: u128 = 18_446_744_073_709_551_615;
+
+/// What is asked of the set of the input.
+#[derive(Clone, Copy, Debug, PartialEq, Eq)]
+pub enum Query {
+    /// Its schedule of so many slots.
+    Run { ticks: u64 },
+    /// What the admission test says of it.
+    Admit,
+}
+
 /// A command, with its numbers in their limits.
 #[derive(Clone, Copy, Debug, PartialEq, Eq)]
 pub enum Command {
-    /// Run the set of the input for so many slots.
-    Run { ticks: u64 },
+    /// Read a set, and answer a query.
+    Ask { query: Query },
+    /// Draw the set of a number, and tell the intervals of its schedule.
+    Draw { number: u64 },
 }
 
 /// The command `run` with this number word.
@@ -23,8 +37,9 @@ fn run_of(number: &[u8]) -> Option<Command>
     match number_of(number, 20) {
         Some(ticks) => {
             if ticks <= MOST_TICKS {
-                Some(Command::Run {
-                    ticks: ticks as u64,
+                let ticks = ticks as u64;
+                Some(Command::Ask {
+                    query: Query::Run { ticks },
                 })
             } else {
                 None
@@ -34,13 +49,62 @@ fn run_of(number: &[u8]) -> Option<Command>
     }
 }
 
+/// The command `gen` with this number word.
+fn draw_of(number: &[u8]) -> Option<Command>
+    ensures value { result ≡ draw_of number.now }
+    ensures limits { ForSome result IsLimited }
+{
+    match number_of(number, 20) {
+        Some(number) => {
+            if number <= MOST_NUMBER {
+                let number = number as u64;
+                Some(Command::Draw { number })
+            } else {
+                None
+            }
+        }
+        None => None,
+    }
+}
+
+/// The command of one word.
+fn one_word(name: &[u8]) -> Option<Command>
+    ensures value { result ≡ one_word name.now }
+    ensures limits { ForSome result IsLimited }
+{
+    if name == b"admit".as_slice() {
+        Some(Command::Ask {
+            query: Query::Admit,
+        })
+    } else {
+        None
+    }
+}
+
+/// The command of a word and a number word.
+fn two_words(name: &[u8], number: &[u8]) -> Option<Command>
+    ensures value { result ≡ two_words name.now number.now }
+    ensures limits { ForSome result IsLimited }
+{
+    if name == b"run".as_slice() {
+        run_of(number)
+    } else if name == b"gen".as_slice() {
+        draw_of(number)
+    } else {
+        None
+    }
+}
+
 /// The command that the words spell, if they have a shape.
 pub(crate) fn command_of(words: &[String]) -> Option<Command>
     ensures value { result ≡ command_of (map string_bytes words.now) }
     ensures limits { ForSome result IsLimited }
 {
-    if words.len() != 2 || words[0].as_str().as_bytes() != b"run".as_slice() {
-        return None;
+    if words.len() == 1 {
+        one_word(words[0].as_str().as_bytes())
+    } else if words.len() == 2 {
+        two_words(words[0].as_str().as_bytes(), words[1].as_str().as_bytes())
+    } else {
+        None
     }
-    run_of(words[1].as_str().as_bytes())
 }
