@@ -1,0 +1,8 @@
+pub mod Parts
+pub mod Bodies
+pub mod Making
+pub mod Plain
+pub mod Renaming
+pub mod Listing
+pub mod Merging
+pub mod Seats

@@ -1,0 +1,4 @@
+pub mod Scripts
+pub mod Lanes
+pub mod Lists
+pub mod Runs

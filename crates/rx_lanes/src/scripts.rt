@@ -1,0 +1,48 @@
+// How many operations there are in scripts.
+ghost use Rattle.rx_lanes.specs.Scripts.{calls_to, operations_of, script_of};
+ghost use Rattle.std.specs.Prelude.{◌≡◌, ◌≤◌, ◌<◌, ◌*◌, length};
+
+use rx_set::{Item, TaskSet};
+
+/// How many operations are among the items of a body. Its cost grows with the number of items.
+pub(crate) fn count_operations(items: &[Item]) -> usize
+    ensures count { result ≡ length (operations_of items.now) }
+    ensures few { result ≤ length items.now }
+{
+    let mut count = 0;
+    for item in items {
+        match item {
+            Item::Work { n: _ } => {}
+            Item::Op { object: _, call: _ } => count += 1,
+        }
+    }
+    count
+}
+
+/// How many operations the script of a task has, for so many jobs. Its cost grows with the number of items of its body.
+pub(crate) fn count_script(set: &TaskSet, jobs: u32, task: usize) -> usize
+    requires task { task < length set.now.tasks }
+    requires jobs { jobs ≤ 200 }
+    ensures count { result ≡ length (script_of set.now jobs task) }
+    ensures few { result ≤ 12800 }
+{
+    jobs as usize * count_operations(set.tasks()[task].body.items())
+}
+
+/// How many operations a lane makes for its tasks among the first so many. Its cost grows with the number of their items.
+pub(crate) fn count_calls(set: &TaskSet, jobs: u32, workers: u32, lane: u32, tasks: usize) -> usize
+    requires tasks { tasks ≤ length set.now.tasks }
+    requires jobs { jobs ≤ 200 }
+    requires workers { 1 ≤ workers }
+    ensures count { result ≡ length (calls_to set.now jobs workers lane tasks) }
+    ensures few { result ≤ tasks * 12800 }
+{
+    let _valid = set.tasks();
+    let mut count = 0;
+    for task in 0..tasks {
+        if task % workers as usize == lane as usize {
+            count += count_script(set, jobs, task);
+        }
+    }
+    count
+}
