@@ -1,4 +1,5 @@
-//! The events of a schedule, and how many there are of each kind.
+//! The events of a schedule, how many there are of each kind, and the ledger that keeps them and counts those of an
+//! interval.
 #![tactic(auto)]
 
 mod events;
