@@ -6,7 +6,7 @@ use Rattle.std.specs.List.{AllByRecursion}
 use Rattle.std.proofs.lemmas.Bool.{cases_Bool, cases_lt, cases_eq, eq-eqb, ne_eqb}
 use Rattle.std.proofs.lemmas.List.{length-reverse, get_or_default, get_or-map, length-map, length-set, get_or-set_same, get_or-set_other, get_or-replicate, length-replicate, reverse-append, reverse-reverse}
 use Rattle.std.proofs.lemmas.List.Sums.{sum_by_more}
-use Rattle.std.proofs.lemmas.Option.{slice_get-get_or}
+use Rattle.std.proofs.lemmas.Option.{slice_get-get_or, slice_get_past}
 use Rattle.rx_seq.specs.declared.kinds.Part.{Part}
 use Rattle.rx_seq.specs.declared.entries.Entry.{Entry}
 use Rattle.rx_seq.specs.History.{tag_of, calls_of}
@@ -51,9 +51,15 @@ all_at P [] k d all h = absurd (omega arith)
 all_at P (e ∷ es) zero d all h = all.0
 all_at P (e ∷ es) (suc k) d all h = all_at P es k d all.1 (omega arith)
 
+-- a place that was read
+read_place : (lists : List (Vec Entry Global)) (taken : List Entry) (places tags : List ℕ) (ended caller place : ℕ) → IsCourse (lists_of lists) taken places tags ended
+    → caller < length lists → place ≡ get_or places caller place → place ≡ calls_of caller taken
+read_place lists taken places tags ended caller place course h at =
+    at ∙ get_or_default places caller place 0 (omega (arith, length_lists lists, course.callers)) ∙ course.place caller (omega (arith, length_lists lists))
+
 -- an entry that is read is known, and ready if its tag is the next one
-module _ (lists : List (Vec Entry Global)) (taken : List Entry) (places tags : List ℕ) (caller : ℕ) (list : Vec Entry Global) (items : List Entry) (place : ℕ) (d : Entry)
-    (known : AreKnown (length tags) (lists_of lists)) (course : IsCourse (lists_of lists) taken places tags)
+module _ (lists : List (Vec Entry Global)) (taken : List Entry) (places tags : List ℕ) (ended caller : ℕ) (list : Vec Entry Global) (items : List Entry) (place : ℕ) (d : Entry)
+    (known : AreKnown (length tags) (lists_of lists)) (course : IsCourse (lists_of lists) taken places tags ended)
     (h : caller < length lists) (is : list ≡ get_or lists caller list) (value : items ≡ list.items) (at : place ≡ get_or places caller place) (within : place < length items) where
   read_list : list_at (lists_of lists) caller ≡ items
   read_list = list_read lists caller list h is ∙ sym value
@@ -65,8 +71,7 @@ module _ (lists : List (Vec Entry Global)) (taken : List Entry) (places tags : L
 
   read_next : next_of (lists_of lists) taken caller ≡ Some (get_or items place d)
   read_next =
-      let there : caller < length places = omega (arith, length_lists lists, course.callers) in
-      let stands : place ≡ calls_of caller taken = at ∙ get_or_default places caller place 0 there ∙ course.place caller (omega (arith, length_lists lists)) in
+      let stands : place ≡ calls_of caller taken = read_place lists taken places tags ended caller place course h at in
       rw (read_list, sym stands) (slice_get-get_or items place d within)
 
   read_tag : is_ready taken (get_or items place d) ≡ ((get_or items place d).tag == get_or tags (get_or items place d).object 0 + 1)
@@ -86,12 +91,40 @@ first_found entry_at (suc n) k e h none some = elim (cases_lt k n) [
   | inr above ↦ let last : n ≡ k = omega arith in rw last (rw none (sym some))
 ]
 
+-- callers of which all entries are taken have no next one
+none_below : (entry_at : ℕ → Option Entry) (n : ℕ) → ((k : ℕ) → k < n → entry_at k ≡ None) → first_below entry_at n ≡ None
+none_below entry_at zero none = refl
+none_below entry_at (suc n) none = rw (none_below entry_at n (λ k h. none k (omega arith)), none n (omega arith)) refl
+
+pub ended_unready : (lists : List (List Entry)) (taken : List Entry) (places tags : List ℕ) (ended : ℕ) → IsCourse lists taken places tags ended → first_below (ready_of lists taken) ended ≡ None
+ended_unready lists taken places tags ended course =
+    none_below (ready_of lists taken) ended (λ caller h. rw (slice_get_past (list_at lists caller) (calls_of caller taken) (course.whole caller h)) refl)
+
+-- and the next caller may be such a one too
+pub ended_more : (lists : List (Vec Entry Global)) (taken : List Entry) (places tags : List ℕ) (caller : ℕ) (list : Vec Entry Global) (place : ℕ) → IsCourse (lists_of lists) taken places tags caller
+    → caller < length lists → list ≡ get_or lists caller list → place ≡ get_or places caller place → length list.items ≤ place → IsCourse (lists_of lists) taken places tags (caller + 1)
+ended_more lists taken places tags caller list place course h is at past =
+    let stands : place ≡ calls_of caller taken = read_place lists taken places tags caller caller place course h at in
+    let all : length (list_at (lists_of lists) caller) ≤ calls_of caller taken = rw (list_read lists caller list h is, sym stands) past in
+    record {
+      callers = course.callers;
+      place = course.place;
+      tag = course.tag;
+      within = omega (arith, length_lists lists);
+      whole = λ c below. elim (cases_lt c caller) [
+        | inl before ↦ course.whole c before
+        | inr last ↦ let same : caller ≡ c = omega arith in subst (λ n. length (list_at (lists_of lists) n) ≤ calls_of n taken) same all
+      ];
+    }
+
 -- before an entry is taken
-pub course_before : (lists : List (List Entry)) (objects : ℕ) → IsCourse lists [] (replicate (length lists) 0) (replicate objects 0)
+pub course_before : (lists : List (List Entry)) (objects : ℕ) → IsCourse lists [] (replicate (length lists) 0) (replicate objects 0) 0
 course_before lists objects = record {
   callers = length-replicate {A = ℕ} (length lists) 0;
   place = λ caller h. get_or-replicate (length lists) caller 0 0 h;
   tag = λ object h. get_or-replicate objects object 0 0 (omega (arith, length-replicate {A = ℕ} objects 0));
+  within = omega arith;
+  whole = λ caller h. absurd (omega arith);
 }
 
 -- and after one more
@@ -114,12 +147,14 @@ tag_more taken tags e o h own at =
       | inr other ↦ get_or-set_other tags e.object o e.tag 0 other ∙ (rw (ne_eqb o e.object other) (omega (arith, at)))
     ]
 
-pub course_more : (lists : List (List Entry)) (taken : List Entry) (places tags : List ℕ) (e : Entry) → IsCourse lists taken places tags → e.caller < length lists → e.object < length tags → e.tag ≡ tag_of e.object taken + 1
-    → IsCourse lists (e ∷ taken) (set places e.caller (get_or places e.caller 0 + 1)) (set tags e.object e.tag)
-course_more lists taken places tags e course caller object tag = record {
+pub course_more : (lists : List (List Entry)) (taken : List Entry) (places tags : List ℕ) (ended : ℕ) (e : Entry) → IsCourse lists taken places tags ended → e.caller < length lists → e.object < length tags → e.tag ≡ tag_of e.object taken + 1
+    → IsCourse lists (e ∷ taken) (set places e.caller (get_or places e.caller 0 + 1)) (set tags e.object e.tag) ended
+course_more lists taken places tags ended e course caller object tag = record {
   callers = length-set places e.caller (get_or places e.caller 0 + 1) ∙ course.callers;
   place = λ c h. place_more taken places e c (omega (arith, course.callers)) (course.place e.caller caller) (course.place c h);
   tag = λ o h. tag_more taken tags e o object tag (course.tag o (omega (arith, length-set tags e.object e.tag)));
+  within = course.within;
+  whole = λ c h. let all = course.whole c h in omega arith;
 }
 
 calls_le : (caller : ℕ) (es : List Entry) → calls_of caller es ≤ length es
@@ -168,8 +203,11 @@ module _ (parts : List Part) (objects : ℕ) (lists : List (List Entry)) (histor
   reversed : reverse order ≡ merged_to lists n
   reversed = ap (λ es. reverse es) is ∙ reverse-reverse (merged_to lists n)
 
-  pub course_reversed : (places tags : List ℕ) → IsCourse lists (merged_to lists n) places tags → IsCourse lists (reverse order) places tags
-  course_reversed places tags course = subst (λ taken. IsCourse lists taken places tags) (sym reversed) course
+  pub course_reversed : (places tags : List ℕ) (ended : ℕ) → IsCourse lists (merged_to lists n) places tags ended → IsCourse lists (reverse order) places tags ended
+  course_reversed places tags ended course = subst (λ taken. IsCourse lists taken places tags ended) (sym reversed) course
+
+  pub course_merged : (places tags : List ℕ) (ended : ℕ) → IsCourse lists (reverse order) places tags ended → IsCourse lists (merged_to lists n) places tags ended
+  course_merged places tags ended course = subst (λ taken. IsCourse lists taken places tags ended) reversed course
 
   pub some_ready : IsSome (first_ready lists (reverse order))
   some_ready = rw reversed (let there = next_there parts objects lists history are n h in rw there.1 refl)

@@ -1,5 +1,5 @@
 -- What is counted of the entries taken.
-use Rattle.std.specs.Prelude.{ℕ, ◌≡◌, ◌<◌, List, length, slice_index}
+use Rattle.std.specs.Prelude.{ℕ, ◌≡◌, ◌<◌, ◌≤◌, List, length, slice_index}
 use Rattle.std.specs.List.{AllByRecursion}
 use Rattle.rx_seq.specs.declared.entries.Entry.{Entry}
 use Rattle.rx_seq.specs.History.{tag_of, calls_of}
@@ -13,8 +13,10 @@ IsKnown objects entry = entry.object < objects
 abbrev pub AreKnown : ℕ → List (List Entry) → Type 0
 AreKnown objects lists = (caller : ℕ) → caller < length lists → AllByRecursion (IsKnown objects) (list_at lists caller)
 
--- the places and tags are those that the entries taken leave
-pub record IsCourse (lists : List (List Entry)) (taken : List Entry) (places tags : List ℕ) : Type 0 where
+-- the places and tags are those that the entries taken leave, and of so many first callers all entries are taken
+pub record IsCourse (lists : List (List Entry)) (taken : List Entry) (places tags : List ℕ) (ended : ℕ) : Type 0 where
   pub callers : length places ≡ length lists
   pub place : (caller : ℕ) → caller < length lists → slice_index places caller ≡ calls_of caller taken
   pub tag : (object : ℕ) → object < length tags → slice_index tags object ≡ tag_of object taken
+  pub within : ended ≤ length lists
+  pub whole : (caller : ℕ) → caller < ended → length (list_at lists caller) ≤ calls_of caller taken

@@ -6,12 +6,14 @@ ghost use Rattle.std.specs.Prelude.{◌≡◌, ◌==◌, ◌+◌, ◌<◌, ◌�
 use rx_seq::{Entry, NoMemory};
 use std::alloc::Global;
 
-/// The entries that are taken so far, oldest first, how many of each caller they are, and the tag of each object.
+/// The entries that are taken so far, oldest first, how many of each caller they are, and the tag of each object. All
+/// entries of the first `ended` callers are taken.
 #[derive(Drop)]
 pub(crate) struct Course {
     order: Vec<Entry>,
     places: Vec<usize>,
     tags: Vec<u64>,
+    ended: usize,
 }
 
 /// Before the first entry, with room for so many, and so many callers and objects.
@@ -25,6 +27,7 @@ pub(crate) fn begin(
     ensures room { IfOk result (λ course. count ≤ vec_capacity course.order) }
     ensures places { IfOk result (λ course. course.places.items ≡ replicate callers 0) }
     ensures tags { IfOk result (λ course. course.tags.items ≡ replicate objects 0) }
+    ensures ended { IfOk result (λ course. course.ended ≡ 0) }
 {
     let order = match Vec::with_capacity(alloc, count) {
         Ok(order) => order,
@@ -42,14 +45,15 @@ pub(crate) fn begin(
         order,
         places,
         tags,
+        ended: 0,
     })
 }
 
 impl Course {
     /// Whether an entry has the next tag of its object. Its cost is constant.
-    fn is_next(&self, entry: Entry) -> bool
-        requires { entry.object < length self.now.tags.items }
-        ensures { result ≡ (entry.tag == slice_index self.now.tags.items entry.object + 1) }
+    fn is_next(&self, entry: &Entry) -> bool
+        requires { entry.now.object < length self.now.tags.items }
+        ensures { result ≡ (entry.now.tag == slice_index self.now.tags.items entry.now.object + 1) }
     {
         entry.tag > 0 && entry.tag - 1 == self.tags[entry.object as usize]
     }
@@ -58,7 +62,7 @@ impl Course {
     fn ready_entry(&self, lists: &[Vec<Entry>], caller: usize) -> Option<Entry>
         requires some { caller < length lists.now }
         requires known { AreKnown (length self.now.tags.items) (lists_of lists.now) }
-        requires course { IsCourse (lists_of lists.now) (reverse self.now.order.items) self.now.places.items self.now.tags.items }
+        requires course { IsCourse (lists_of lists.now) (reverse self.now.order.items) self.now.places.items self.now.tags.items self.now.ended }
         ensures { result ≡ ready_of (lists_of lists.now) (reverse self.now.order.items) caller }
     {
         let list = lists[caller].as_slice();
@@ -66,22 +70,40 @@ impl Course {
         if place >= list.len() {
             return None;
         }
-        let entry = list[place];
+        let entry = &list[place];
         if self.is_next(entry) {
-            Some(entry)
+            Some(*entry)
         } else {
             None
         }
     }
 
-    /// The ready entry of the smallest caller that has one. Its cost grows with the number of callers.
+    /// Raises `ended` past the next callers of which all entries are taken. Its cost grows with the number of callers
+    /// that it passes, and is constant where it passes none; none is passed twice.
+    pub(crate) fn pass_ended(&mut self, lists: &[Vec<Entry>])
+        requires course { IsCourse (lists_of lists.now) (reverse self.old.order.items) self.old.places.items self.old.tags.items self.old.ended }
+        ensures order { self.new.order ≡ self.old.order }
+        ensures places { self.new.places ≡ self.old.places }
+        ensures tags { self.new.tags ≡ self.old.tags }
+        ensures course { IsCourse (lists_of lists.now) (reverse self.new.order.items) self.new.places.items self.new.tags.items self.new.ended }
+    {
+        for caller in self.ended..lists.len() {
+            if self.places[caller] < lists[caller].len() {
+                return;
+            }
+            self.ended = caller + 1;
+        }
+    }
+
+    /// The ready entry of the smallest caller that has one. Its cost grows with the number of callers that it looks at:
+    /// from caller `ended` to the one whose entry it finds.
     pub(crate) fn next_entry(&self, lists: &[Vec<Entry>]) -> Entry
         requires known { AreKnown (length self.now.tags.items) (lists_of lists.now) }
-        requires course { IsCourse (lists_of lists.now) (reverse self.now.order.items) self.now.places.items self.now.tags.items }
+        requires course { IsCourse (lists_of lists.now) (reverse self.now.order.items) self.now.places.items self.now.tags.items self.now.ended }
         requires some { IsSome (first_ready (lists_of lists.now) (reverse self.now.order.items)) }
         ensures { first_ready (lists_of lists.now) (reverse self.now.order.items) ≡ Some result }
     {
-        for caller in 0..lists.len() {
+        for caller in self.ended..lists.len() {
             if let Some(entry) = self.ready_entry(lists, caller) {
                 return entry;
             }
@@ -99,6 +121,7 @@ impl Course {
         ensures room { vec_capacity self.new.order ≡ vec_capacity self.old.order }
         ensures places { self.new.places.items ≡ slice_set self.old.places.items entry.caller (slice_index self.old.places.items entry.caller + 1) }
         ensures tags { self.new.tags.items ≡ slice_set self.old.tags.items entry.object entry.tag }
+        ensures ended { self.new.ended ≡ self.old.ended }
     {
         self.places[entry.caller as usize] += 1;
         self.tags[entry.object as usize] = entry.tag;

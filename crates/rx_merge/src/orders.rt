@@ -23,8 +23,8 @@ fn count_entries(lists: &[Vec<Entry>]) -> Option<usize>
 /// the next entry of the smallest caller whose next entry has the next tag of its object. The lists are those of one
 /// legal history on so many objects whose tags begin at 0. The order, oldest first, has all their entries, and is a
 /// legal history itself. It refuses want of memory alone, which it takes before the first step: for each entry, for
-/// each caller and for each object. Its cost grows with the number of entries times the number of callers, and with the
-/// number of objects.
+/// each caller and for each object. Its cost grows with the numbers of callers and of objects, and for each entry with
+/// the number of callers that it looks at: from the first that has entries left to the one whose entry it takes.
 pub fn merge(alloc: Global, objects: u32, lists: &[Vec<Entry>]) -> Result<Vec<Entry>, NoMemory>
     requires { (parts : List Part) × (history : List AnEntry) × AreOf parts objects (lists_of lists.now) history }
     ensures order { IfOk result (λ order. order.items ≡ reverse (merged (lists_of lists.now))) }
@@ -35,6 +35,7 @@ pub fn merge(alloc: Global, objects: u32, lists: &[Vec<Entry>]) -> Result<Vec<En
     };
     let mut course = begin(alloc, count, lists.len(), objects as usize)?;
     for _ in 0..count {
+        course.pass_ended(lists);
         let entry = course.next_entry(lists);
         course.take(entry);
     }

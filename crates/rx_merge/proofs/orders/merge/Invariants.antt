@@ -9,5 +9,5 @@ invariant-loop l = record {
   order : l.course.order.items ≡ reverse (merged_to (lists_of l.lists) l.counter);
   room : l.count ≤ vec_capacity l.course.order;
   tags : length l.course.tags.items ≡ l.objects;
-  course : IsCourse (lists_of l.lists) (merged_to (lists_of l.lists) l.counter) l.course.places.items l.course.tags.items;
+  course : IsCourse (lists_of l.lists) (merged_to (lists_of l.lists) l.counter) l.course.places.items l.course.tags.items l.course.ended;
 }
