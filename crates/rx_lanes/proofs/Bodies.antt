@@ -9,7 +9,7 @@ use Rattle.rx_set.specs.declared.tasks.Task.{Task}
 use Rattle.rx_set.specs.System.{System, TaskRow, no_task, task_at, part_of_row, parts_of}
 use Rattle.rx_set.specs.Valid.{IsValid, IsItem}
 use Rattle.rx_set.specs.View.{row_of}
-use Rattle.rx_lanes.specs.Scripts.{Asked, operations_of, script_of}
+use Rattle.rx_set.specs.Operations.{Asked, operations_of, script_of}
 use Rattle.rx_lanes.specs.Lanes.{CanMake, CanMakeAll}
 use Rattle.rx_lanes.proofs.Parts.{some_more, repeated_length}
 
@@ -30,8 +30,8 @@ module _ (system : System) (jobs k : ℕ) (items : List Item) (valid : IsValid s
   pub few_items : length items ≤ 64
   few_items = let bound = (valid.tasks k known).some_items.1 in omega (arith, ap length is, bound)
 
-  pub script_is : script_of system jobs k ≡ Rattle.rx_lanes.specs.Scripts.repeated jobs (operations_of items)
-  script_is = ap (λ (xs : List Item). Rattle.rx_lanes.specs.Scripts.repeated jobs (operations_of xs)) (sym is)
+  pub script_is : script_of system jobs k ≡ Rattle.rx_set.specs.Operations.repeated jobs (operations_of items)
+  script_is = ap (λ (xs : List Item). Rattle.rx_set.specs.Operations.repeated jobs (operations_of xs)) (sym is)
 
   pub script_count : jobs * length (operations_of items) ≡ length (script_of system jobs k)
   script_count = sym (ap length script_is ∙ repeated_length jobs (operations_of items))

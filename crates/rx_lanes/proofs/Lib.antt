@@ -6,3 +6,4 @@ pub mod Renaming
 pub mod Listing
 pub mod Merging
 pub mod Seats
+pub mod Concrete

@@ -9,9 +9,10 @@ use Rattle.std.proofs.lemmas.List.Elements.{filter-append}
 use Rattle.rx_seq.specs.declared.entries.Entry.{Entry}
 use Rattle.rx_set.specs.System.{System}
 use Rattle.rx_merge.specs.Merged.{list_at, lists_of}
+use Rattle.rx_set.specs.Operations.{Asked, asked_of, script_of}
 use Rattle.rx_lanes.specs.declared.answers.Answer.{Answer}
-use Rattle.rx_lanes.specs.Scripts.{Asked, script_of, is_of, share, calls_to}
-use Rattle.rx_lanes.specs.Lists.{asked_of, answer_of, IsTold}
+use Rattle.rx_lanes.specs.Scripts.{is_of, share, calls_to}
+use Rattle.rx_lanes.specs.Lists.{answer_of, IsTold}
 use Rattle.rx_lanes.specs.Runs.{AreLists, answers_at, items_of}
 use Rattle.rx_lanes.proofs.Parts.{over_yes, over_no}
 use Rattle.rx_lanes.proofs.Plain.{is_by}

@@ -16,11 +16,12 @@ use Rattle.rx_port.specs.declared.views.View.{View}
 use Rattle.rx_port.specs.Core.{entry_for}
 use Rattle.rx_table.specs.Boards.{Board, IsSeatOf}
 use Rattle.rx_object.specs.Calls.{IsDone, IsSpent}
+use Rattle.rx_set.specs.Operations.{Asked, asked, asked_of, operation_of, operations_of, repeated, script_of}
 use Rattle.rx_lanes.specs.declared.answers.Answer.{Answer}
 use Rattle.rx_lanes.specs.declared.lanes.Lane.{Lane}
-use Rattle.rx_lanes.specs.Scripts.{Asked, asked, operation_of, operations_of, repeated, script_of, is_of, calls_to, lane_script}
+use Rattle.rx_lanes.specs.Scripts.{is_of, calls_to, lane_script}
 use Rattle.rx_lanes.proofs.Parts.{operations_more, count_more, count_up, repeated_more, repeated_up, over_yes, over_no, calls_within}
-use Rattle.rx_lanes.specs.Lists.{asked_of, answer_of}
+use Rattle.rx_lanes.specs.Lists.{answer_of}
 use Rattle.rx_lanes.specs.Lanes.{CanMake, CanMakeAll, HasRoom, HasSpent, HasMade, Adds}
 
 pub same_known : (v : View) (a b : Known) → v.known ≡ Some a → v.known ≡ Some b → a ≡ b

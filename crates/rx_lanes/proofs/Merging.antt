@@ -1,26 +1,31 @@
 -- The lists of all tasks as those of one legal history.
-use Rattle.std.proofs.Common.{ℕ, zero, suc, ◌≡◌, ◌+◌, ◌<◌, ◌≤◌, ◌%◌, Bool, true, false, List, [], ◌∷◌, ◌++◌, length, map, reverse, take, drop, get_or, refl, sym, ap, ap₂, ◌∙◌, subst, arith, ◌==◌, All, sum_by, mod-lt}
+use Rattle.std.proofs.Common.{ℕ, zero, suc, ◌≡◌, ◌+◌, ◌<◌, ◌≤◌, ◌%◌, Bool, true, false, List, [], ◌∷◌, ◌++◌, length, map, reverse, take, drop, get_or, refl, sym, ap, ap₂, ◌∙◌, subst, arith, ◌==◌, All, sum_by, mod-lt, Vec, Global}
 use Rattle.std.specs.List.{AllByRecursion}
-use Rattle.std.proofs.lemmas.List.{length-map, length-reverse, reverse-reverse, take_all}
+use Rattle.std.proofs.lemmas.List.{ext_get_or, get_or-map, length-map, length-reverse, reverse-reverse, take_all}
 use Rattle.std.proofs.lemmas.List.Elements.{recursion_from_All, All-weaker}
 use Rattle.std.proofs.lemmas.List.Sums.{sum_by_push}
 use Rattle.rx_seq.specs.declared.entries.Entry.{Entry}
+use Rattle.rx_seq.specs.declared.kinds.Part.{Part}
 use Rattle.rx_seq.specs.History.{calls_of}
 use Rattle.rx_seq.specs.Legal.{IsLegal, entries_of}
 use Rattle.rx_seq.specs.States.{IsFitting}
 use Rattle.rx_set.specs.System.{System, numbers, parts_of}
+use Rattle.rx_set.proofs.Counts.{length-numbers, get_or-numbers}
 use Rattle.rx_shape.specs.Layout.{Layout}
-use Rattle.rx_merge.specs.Merged.{AreOf, list_at, entries_on, merged}
+use Rattle.rx_table.specs.Closings.{Ending, HasEnded}
+use Rattle.rx_merge.specs.Merged.{AreOf, list_at, lists_of, entries_on, merged}
+use Rattle.rx_set.specs.Operations.{asked_of, script_of}
 use Rattle.rx_lanes.specs.declared.answers.Answer.{Answer}
-use Rattle.rx_lanes.specs.Scripts.{script_of, calls_to, lane_script}
-use Rattle.rx_lanes.specs.Lists.{asked_of, answer_of, plain}
-use Rattle.rx_lanes.specs.Runs.{AreLists, AreShared, AreKept, answers_at, entries_by, table_of}
-use Rattle.rx_lanes.proofs.Listing.{lane_list, mine_only, others_none, all_tasks, asked_upto, told_upto}
+use Rattle.rx_lanes.specs.Scripts.{calls_to, lane_script}
+use Rattle.rx_lanes.specs.Histories.{IsMade, made_of}
+use Rattle.rx_lanes.specs.Lists.{IsListOf, answer_of, plain, IsTold}
+use Rattle.rx_lanes.specs.Runs.{AreLists, AreShared, AreKept, answers_at, entries_by, lists_in, table_of}
+use Rattle.rx_lanes.proofs.Listing.{are_lists, lane_list, mine_only, others_none, all_tasks, asked_upto, told_upto}
 use Rattle.rx_lanes.proofs.Plain.{plain_from, legal_plain, same_on, calls_of_length, IsBelow, all_below, below_none, below_more, below_all, count_below}
 use Rattle.rx_lanes.proofs.Renaming.{renamed, Begin, renamed_plain, renamed_all, renamed_of}
 
 -- the lists of each lane are its seat's entries
-pub shared_from : (system : System) (jobs workers : ℕ) (history : List Entry) (answers : List (List Answer)) (lists : List (List Entry)) → AreKept system jobs workers history answers → AreLists system jobs lists
+shared_from : (system : System) (jobs workers : ℕ) (history : List Entry) (answers : List (List Answer)) (lists : List (List Entry)) → AreKept system jobs workers history answers → AreLists system jobs lists
     → ((task : ℕ) → task < length system.tasks → map answer_of (list_at lists task) ≡ take (length (script_of system jobs task)) (drop (length (calls_to system jobs workers (task % workers) task)) (answers_at answers (task % workers))))
     → AreShared system workers lists history
 shared_from system jobs workers history answers lists kept are told = λ lane below.
@@ -32,6 +37,15 @@ shared_from system jobs workers history answers lists kept are told = λ lane be
     (here.calls ∙ sym (asked_upto system jobs workers lists are lane (length system.tasks) (omega arith)))
     (here.told ∙ sym (told_upto system jobs workers lists are (answers_at answers) told lane (length system.tasks) (omega arith) ∙ take_all (length (lane_script system jobs workers lane)) all (omega (arith, many))))
 
+-- lists that are those of the numbers below their count
+number_at : (list_of : ℕ → List Entry) (n k : ℕ) → k < n → get_or (map list_of (numbers n)) k [] ≡ list_of k
+number_at list_of n k below = get_or-map list_of (numbers n) k 0 [] (omega (arith, below, length-numbers n)) ∙ ap list_of (get_or-numbers n k below)
+
+over_numbers : (list_of : ℕ → List Entry) (n : ℕ) (lists : List (List Entry)) → length lists ≡ n → ((k : ℕ) → k < n → list_of k ≡ list_at lists k) → map list_of (numbers n) ≡ lists
+over_numbers list_of n lists many each =
+    let count : length (map list_of (numbers n)) ≡ n = length-map (numbers n) list_of ∙ length-numbers n in
+    ext_get_or [] (map list_of (numbers n)) lists (count ∙ sym many) (λ k inside. number_at list_of n k (omega (arith, inside, count)) ∙ each k (omega (arith, inside, count)))
+
 -- objects do not look at callers
 objects_plain : (n : ℕ) (es : List Entry) → AllByRecursion (λ e. e.object < n) es → AllByRecursion (λ e. e.object < n) (map plain es)
 objects_plain n [] h = tt
@@ -41,51 +55,89 @@ plain_objects : (n : ℕ) (es : List Entry) → AllByRecursion (λ e. e.object <
 plain_objects n [] h = tt
 plain_objects n (e ∷ es) h = (h.0, plain_objects n es h.1)
 
-module _ (system : System) (jobs workers : ℕ) (history : List Entry) (lists : List (List Entry)) (some : 1 ≤ workers) (are : AreLists system jobs lists) (shared : AreShared system workers lists history)
-    (callers : (seat : ℕ) → workers ≤ seat → entries_of seat history ≡ []) where
+-- a table's history is one of the set's objects
+module _ (system : System) (workers : ℕ) (layout : Layout) (history : List Entry) (is : layout ≡ table_of system workers) where
+  legal_at : IsLegal layout.parts layout.first history → IsLegal (parts_of system) 0 history
+  legal_at h = subst (λ (l : Layout). IsLegal l.parts l.first history) is h
+
+  fitting_at : All (IsFitting layout.parts) history → All (IsFitting (parts_of system)) history
+  fitting_at h = subst (λ (l : Layout). All (IsFitting l.parts) history) is h
+
+  pub callers_at : ((seat : ℕ) → layout.seats ≤ seat → entries_of seat history ≡ []) → (seat : ℕ) → workers ≤ seat → entries_of seat history ≡ []
+  callers_at h = subst (λ (l : Layout). (seat : ℕ) → l.seats ≤ seat → entries_of seat history ≡ []) is h
+
+-- what is known of the lists, and of the history in which their calls were made
+pub record IsGathered (system : System) (jobs workers : ℕ) (history : List Entry) (lists : List (List Entry)) : Type 0 where
+  pub some : 1 ≤ workers
+  pub are : AreLists system jobs lists
+  pub shared : AreShared system workers lists history
+  pub legal : IsLegal (parts_of system) 0 history
+  pub fitting : All (IsFitting (parts_of system)) history
+  pub callers : (seat : ℕ) → workers ≤ seat → entries_of seat history ≡ []
+
+pub gather : (system : System) (jobs workers : ℕ) (closed : Ending) (answers : List (List Answer)) (lists : List (Vec Entry Global)) → 1 ≤ workers → closed.layout ≡ table_of system workers → HasEnded closed
+    → AreKept system jobs workers closed.history answers → length lists ≡ length system.tasks
+    → ((task : ℕ) → task < length system.tasks → IsTold task (script_of system jobs task) (take (length (script_of system jobs task)) (drop (length (calls_to system jobs workers (task % workers) task)) (answers_at answers (task % workers)))) (list_at (lists_of lists) task))
+    → IsGathered system jobs workers closed.history (lists_of lists)
+gather system jobs workers closed answers lists some layout ended kept many each =
+    let are : AreLists system jobs (lists_of lists) = are_lists system jobs lists _ many each in
+    record {
+      some = some;
+      are = are;
+      shared = shared_from system jobs workers closed.history answers (lists_of lists) kept are (λ task known. (each task known).told);
+      legal = legal_at system workers closed.layout closed.history layout ended.legal;
+      fitting = fitting_at system workers closed.layout closed.history layout ended.fitting;
+      callers = callers_at system workers closed.layout closed.history layout ended.callers;
+    }
+
+-- what holds of all lists of one legal history
+abbrev pub Law : (List Part → List (List Entry) → List Entry → Type 0) → Type 0
+Law P = (parts : List Part) (objects : ℕ) (lists : List (List Entry)) (history : List Entry) → AreOf parts objects lists history → P parts lists history
+
+module _ (system : System) (jobs workers : ℕ) (history : List Entry) (lists : List (List Entry)) (gathered : IsGathered system jobs workers history lists) where
   -- the last history with the tasks as callers
   abbrev pub by_tasks : List Entry
-  by_tasks = renamed (lane_list system jobs workers lists are) history
+  by_tasks = renamed (lane_list system jobs workers lists gathered.are) history
 
   below : AllByRecursion (IsBelow workers) history
-  below = all_below workers history callers
+  below = all_below workers history gathered.callers
 
-  begin : Begin (lane_list system jobs workers lists are) workers history
-  begin lane h = ([], sym (shared lane h) ∙ sym (Rattle.std.proofs.Common.append-nil (map plain (entries_by lane history))))
+  begin : Begin (lane_list system jobs workers lists gathered.are) workers history
+  begin lane h = ([], sym (gathered.shared lane h) ∙ sym (Rattle.std.proofs.Common.append-nil (map plain (entries_by lane history))))
 
-  pub same_calls : map plain by_tasks ≡ map plain history
-  same_calls = renamed_plain (lane_list system jobs workers lists are) workers history below begin
+  same_calls : map plain by_tasks ≡ map plain history
+  same_calls = renamed_plain (lane_list system jobs workers lists gathered.are) workers history below begin
 
   tasks_below : AllByRecursion (IsBelow (length system.tasks)) by_tasks
-  tasks_below = renamed_all (lane_list system jobs workers lists are) (IsBelow (length system.tasks)) (all_tasks system jobs workers lists are) workers history below begin
+  tasks_below = renamed_all (lane_list system jobs workers lists gathered.are) (IsBelow (length system.tasks)) (all_tasks system jobs workers lists gathered.are) workers history below begin
 
-  whole_list : (lane : ℕ) → lane < workers → take (calls_of lane history) (lane_list system jobs workers lists are lane) ≡ lane_list system jobs workers lists are lane
+  whole_list : (lane : ℕ) → lane < workers → take (calls_of lane history) (lane_list system jobs workers lists gathered.are lane) ≡ lane_list system jobs workers lists gathered.are lane
   whole_list lane h =
-      let many : length (lane_list system jobs workers lists are lane) ≡ calls_of lane history
-      = sym (length-map (lane_list system jobs workers lists are lane) plain) ∙ ap length (sym (shared lane h)) ∙ length-map (entries_by lane history) plain ∙ length-reverse (entries_of lane history) ∙ sym (calls_of_length lane history) in
-      take_all (calls_of lane history) (lane_list system jobs workers lists are lane) (omega (arith, many))
+      let many : length (lane_list system jobs workers lists gathered.are lane) ≡ calls_of lane history
+      = sym (length-map (lane_list system jobs workers lists gathered.are lane) plain) ∙ ap length (sym (gathered.shared lane h)) ∙ length-map (entries_by lane history) plain ∙ length-reverse (entries_of lane history) ∙ sym (calls_of_length lane history) in
+      take_all (calls_of lane history) (lane_list system jobs workers lists gathered.are lane) (omega (arith, many))
 
   own_list : (task : ℕ) → task < length system.tasks → reverse (entries_of task by_tasks) ≡ list_at lists task
   own_list task known =
-      let mine : task % workers < workers = mod-lt task (omega arith) in
-      renamed_of (lane_list system jobs workers lists are) workers task (task % workers) (λ other h apart. others_none system jobs workers lists are task other apart) history below begin
+      let mine : task % workers < workers = mod-lt task (omega (arith, gathered.some)) in
+      renamed_of (lane_list system jobs workers lists gathered.are) workers task (task % workers) (λ other h apart. others_none system jobs workers lists gathered.are task other apart) history below begin
       ∙ ap (Rattle.std.specs.Prelude.filter (Rattle.rx_lanes.proofs.Plain.is_by task)) (whole_list (task % workers) mine)
-      ∙ mine_only system jobs workers lists are task known
+      ∙ mine_only system jobs workers lists gathered.are task known
 
-  pub are_of : (objects : ℕ) → objects ≡ length (parts_of system) → IsLegal (parts_of system) 0 history → All (IsFitting (parts_of system)) history → AreOf (parts_of system) objects lists by_tasks
-  are_of objects count legal fitting =
+  pub are_of : (objects : ℕ) → objects ≡ length (parts_of system) → AreOf (parts_of system) objects lists by_tasks
+  are_of objects count =
       let P : Entry → Type 0 = λ e. e.object < objects in
-      let known : AllByRecursion P history = recursion_from_All P history (All-weaker (IsFitting (parts_of system)) P (λ e h. let x = h.exists in omega (arith, count)) history fitting) in
+      let known : AllByRecursion P history = recursion_from_All P history (All-weaker (IsFitting (parts_of system)) P (λ e h. let x = h.exists in omega (arith, count)) history gathered.fitting) in
       record {
-        legal = legal_plain (parts_of system) 0 by_tasks history same_calls legal;
-        own = λ caller h. sym (own_list caller (omega (arith, are.many)));
-        callers = subst (λ (n : ℕ). AllByRecursion (IsBelow n) by_tasks) (sym are.many) tasks_below;
+        legal = legal_plain (parts_of system) 0 by_tasks history same_calls gathered.legal;
+        own = λ caller h. sym (own_list caller (omega (arith, gathered.are.many)));
+        callers = subst (λ (n : ℕ). AllByRecursion (IsBelow n) by_tasks) (sym gathered.are.many) tasks_below;
         known = plain_objects objects by_tasks (subst (AllByRecursion P) (sym same_calls) (objects_plain objects history known));
       }
 
   own_count : (task : ℕ) → task < length system.tasks → calls_of task by_tasks ≡ length (script_of system jobs task)
   own_count task known =
-      calls_of_length task by_tasks ∙ sym (length-reverse (entries_of task by_tasks)) ∙ ap length (own_list task known) ∙ sym (length-map (list_at lists task) asked_of) ∙ ap length (are.each task known).calls
+      calls_of_length task by_tasks ∙ sym (length-reverse (entries_of task by_tasks)) ∙ ap length (own_list task known) ∙ sym (length-map (list_at lists task) asked_of) ∙ ap length (gathered.are.each task known).calls
 
   sizes : (n : ℕ) → n ≤ length system.tasks → sum_by (λ (task : ℕ). length (script_of system jobs task)) (numbers n) ≡ count_below n by_tasks
   sizes zero h = sym (below_none by_tasks)
@@ -97,30 +149,49 @@ module _ (system : System) (jobs workers : ℕ) (history : List Entry) (lists : 
       let more : count_below (suc n) by_tasks ≡ count_below n by_tasks + calls_of n by_tasks = rw next (below_more n by_tasks) in
       last ∙ sym (more ∙ ap₂ (λ (a b : ℕ). a + b) (sym before) (own_count n (omega arith)))
 
-  pub size : length by_tasks ≡ sum_by (λ (task : ℕ). length (script_of system jobs task)) (numbers (length system.tasks))
+  size : length by_tasks ≡ sum_by (λ (task : ℕ). length (script_of system jobs task)) (numbers (length system.tasks))
   size = sym (sizes (length system.tasks) (omega arith) ∙ below_all (length system.tasks) by_tasks tasks_below)
 
-  -- what is told of the merged order
+  -- what laws tell of the merged order
   module _ (order : List Entry) (order_is : order ≡ reverse (merged lists)) where
     back : reverse order ≡ merged lists
     back = ap reverse order_is ∙ reverse-reverse (merged lists)
 
-    pub order_legal : IsLegal (parts_of system) 0 (merged lists) → IsLegal (parts_of system) 0 (reverse order)
-    order_legal h = subst (IsLegal (parts_of system) 0) (sym back) h
+    holds : (P : List Part → List (List Entry) → List Entry → Type 0) → Law P → P (parts_of system) lists by_tasks
+    holds P law = law (parts_of system) (length (parts_of system)) lists by_tasks (are_of (length (parts_of system)) refl)
 
-    pub order_whole : length (merged lists) ≡ length by_tasks → length order ≡ sum_by (λ (task : ℕ). length (script_of system jobs task)) (numbers (length system.tasks))
-    order_whole h = ap length order_is ∙ length-reverse (merged lists) ∙ h ∙ size
+    pub order_own : Law (λ parts ls h. (caller : ℕ) → caller < length ls → reverse (entries_of caller (merged ls)) ≡ list_at ls caller) → lists_in system (reverse order) ≡ lists
+    order_own law =
+        let own : (caller : ℕ) → caller < length lists → reverse (entries_of caller (merged lists)) ≡ list_at lists caller = holds _ law in
+        ap (lists_in system) back ∙ over_numbers (λ task. entries_by task (merged lists)) (length system.tasks) lists gathered.are.many (λ k below. own k (omega (arith, below, gathered.are.many)))
 
-    pub order_on : (object : ℕ) → entries_on object (merged lists) ≡ entries_on object by_tasks → map plain (entries_on object (reverse order)) ≡ map plain (entries_on object history)
-    order_on object h = ap (λ (xs : List Entry). map plain (entries_on object xs)) back ∙ ap (map plain) h ∙ same_on object by_tasks history same_calls
+    order_legal : Law (λ parts ls h. IsLegal parts 0 (merged ls)) → IsLegal (parts_of system) 0 (reverse order)
+    order_legal law = subst (IsLegal (parts_of system) 0) (sym back) (holds _ law)
 
--- a table's history is one of the set's objects
-module _ (system : System) (workers : ℕ) (layout : Layout) (history : List Entry) (is : layout ≡ table_of system workers) where
-  pub legal_at : IsLegal layout.parts layout.first history → IsLegal (parts_of system) 0 history
-  legal_at h = subst (λ (l : Layout). IsLegal l.parts l.first history) is h
+    order_whole : Law (λ parts ls h. length (merged ls) ≡ length h) → length order ≡ sum_by (λ (task : ℕ). length (script_of system jobs task)) (numbers (length system.tasks))
+    order_whole law = ap length order_is ∙ length-reverse (merged lists) ∙ holds _ law ∙ size
 
-  pub fitting_at : All (IsFitting layout.parts) history → All (IsFitting (parts_of system)) history
-  fitting_at h = subst (λ (l : Layout). All (IsFitting l.parts) history) is h
+    pub order_on : Law (λ parts ls h. (object : ℕ) → entries_on object (merged ls) ≡ entries_on object h) → (object : ℕ) → map plain (entries_on object (reverse order)) ≡ map plain (entries_on object history)
+    order_on law object =
+        let same : entries_on object (merged lists) ≡ entries_on object by_tasks = holds _ law object in
+        ap (λ (xs : List Entry). map plain (entries_on object xs)) back ∙ ap (map plain) same ∙ same_on object by_tasks history same_calls
 
-  pub callers_at : ((seat : ℕ) → layout.seats ≤ seat → entries_of seat history ≡ []) → (seat : ℕ) → workers ≤ seat → entries_of seat history ≡ []
-  callers_at h = subst (λ (l : Layout). (seat : ℕ) → l.seats ≤ seat → entries_of seat history ≡ []) is h
+    -- all of it: so many lanes made it, in the order of the table
+    pub order_made : Law (λ parts ls h. (caller : ℕ) → caller < length ls → reverse (entries_of caller (merged ls)) ≡ list_at ls caller) → Law (λ parts ls h. IsLegal parts 0 (merged ls))
+        → Law (λ parts ls h. length (merged ls) ≡ length h) → Law (λ parts ls h. (object : ℕ) → entries_on object (merged ls) ≡ entries_on object h)
+        → IsMade (made_of system workers jobs (reverse order))
+    order_made callers legal whole objects =
+        let own : lists_in system (reverse order) ≡ lists = order_own callers in
+        let list_in : (task : ℕ) → task < length system.tasks → list_at lists task ≡ entries_by task (reverse order)
+        = λ task known. ap (λ (ls : List (List Entry)). list_at ls task) (sym own) ∙ number_at (λ (k : ℕ). entries_by k (reverse order)) (length system.tasks) task known in record {
+          legal = order_legal legal;
+          scripts = λ task known. subst (IsListOf task (script_of system jobs task)) (list_in task known) (gathered.are.each task known);
+          whole = length-reverse order ∙ order_whole whole;
+          merged = back ∙ ap merged (sym own);
+          shared = record {
+            order = history;
+            legal = gathered.legal;
+            lanes = subst (λ (ls : List (List Entry)). AreShared system workers ls history) (sym own) gathered.shared;
+            objects = order_on objects;
+          };
+        }

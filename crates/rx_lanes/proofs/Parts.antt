@@ -8,7 +8,8 @@ use Rattle.std.proofs.lemmas.List.Elements.{filter-append}
 use Rattle.rx_set.specs.declared.items.Item.{Item}
 use Rattle.rx_set.specs.declared.items.Item.TheVariants.{Work, Op}
 use Rattle.rx_set.specs.System.{System, numbers}
-use Rattle.rx_lanes.specs.Scripts.{Asked, operation_of, operations_of, repeated, script_of, is_of, share, calls_to}
+use Rattle.rx_set.specs.Operations.{Asked, operation_of, operations_of, repeated, script_of}
+use Rattle.rx_lanes.specs.Scripts.{is_of, share, calls_to}
 
 -- the operations of one item more
 pub operations_more : (items : List Item) (i : ℕ) (d item : Item) → i < length items → get_or items i d ≡ item → operations_of (take (i + 1) items) ≡ operations_of (take i items) ++ operation_of item

@@ -12,8 +12,8 @@ use Rattle.rx_seq.specs.History.{part_at, replay, tag_of, calls_of}
 use Rattle.rx_seq.specs.Legal.{IsLegal, entries_of}
 use Rattle.rx_merge.specs.Merged.{entries_on}
 use Rattle.rx_lanes.specs.declared.answers.Answer.{Answer}
-use Rattle.rx_lanes.specs.Scripts.{Asked}
-use Rattle.rx_lanes.specs.Lists.{asked_of, answer_of, plain}
+use Rattle.rx_set.specs.Operations.{Asked, asked_of}
+use Rattle.rx_lanes.specs.Lists.{answer_of, plain}
 
 -- an entry without its caller, from what it was asked and what it answered
 abbrev rebuilt : Asked → Answer → Entry

@@ -17,10 +17,11 @@ use Rattle.rx_port.specs.declared.views.Known.{Known}
 use Rattle.rx_port.specs.Lawful.{IsOlder}
 use Rattle.rx_table.specs.Boards.{Board, Sitting, IsSeatOf, AreSeats, AreNew, new_seat}
 use Rattle.rx_table.specs.Closings.{HasSeen}
+use Rattle.rx_set.specs.Operations.{asked_of, script_of}
 use Rattle.rx_lanes.specs.declared.answers.Answer.{Answer}
 use Rattle.rx_lanes.specs.declared.lanes.Lane.{Lane}
-use Rattle.rx_lanes.specs.Scripts.{script_of, is_of, calls_to, lane_script}
-use Rattle.rx_lanes.specs.Lists.{asked_of, answer_of}
+use Rattle.rx_lanes.specs.Scripts.{is_of, calls_to, lane_script}
+use Rattle.rx_lanes.specs.Lists.{answer_of}
 use Rattle.rx_lanes.specs.Lanes.{HasSpent, HasMade, HasRun, IsReady, IsNew, number_of, seat_of, answers_of}
 use Rattle.rx_lanes.specs.Runs.{entries_by, IsKept, answers_at, items_of, AreKept, table_of}
 use Rattle.rx_lanes.proofs.Parts.{calls_yes, calls_no}

@@ -12,10 +12,11 @@ use Rattle.rx_shape.specs.Layout.{Layout}
 use Rattle.rx_port.specs.Core.{tag_after}
 use Rattle.rx_port.specs.declared.views.Known.{Known}
 use Rattle.rx_table.specs.Boards.{Board, Sitting, IsSeatOf}
+use Rattle.rx_set.specs.Operations.{Asked, asked_of}
 use Rattle.rx_lanes.specs.declared.answers.Answer.{Answer}
 use Rattle.rx_lanes.specs.declared.lanes.Lane.{Lane}
-use Rattle.rx_lanes.specs.Scripts.{Asked, lane_script}
-use Rattle.rx_lanes.specs.Lists.{asked_of, answer_of}
+use Rattle.rx_lanes.specs.Scripts.{lane_script}
+use Rattle.rx_lanes.specs.Lists.{answer_of}
 
 -- an item asks for nothing, or for a call that fits an object that is there
 abbrev pub CanMake : List Part → Item → Type 0

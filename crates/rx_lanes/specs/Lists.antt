@@ -2,12 +2,9 @@
 use Rattle.std.specs.Prelude.{ℕ, ◌≡◌, ◌+◌, List, map, slice_get, Some}
 use Rattle.rx_seq.specs.declared.entries.Entry.{Entry}
 use Rattle.rx_lanes.specs.declared.answers.Answer.{Answer}
-use Rattle.rx_lanes.specs.Scripts.{Asked, asked}
+use Rattle.rx_set.specs.Operations.{Asked, asked_of}
 
--- what an entry was asked, and what it answered
-abbrev pub asked_of : Entry → Asked
-asked_of entry = asked entry.object entry.call
-
+-- what an entry answered
 abbrev pub answer_of : Entry → Answer
 answer_of entry = record { reply = entry.reply; tag = entry.tag }
 

@@ -1,37 +1,10 @@
--- What tasks ask of the shared objects, and which lane makes it.
-use Rattle.std.specs.Prelude.{ℕ, zero, suc, ◌%◌, ◌==◌, Bool, List, [], ◌∷◌, ◌++◌, length, filter}
+-- Which lane makes the operations of which tasks.
+use Rattle.std.specs.Prelude.{ℕ, ◌%◌, ◌==◌, Bool, List, length, filter}
 use Rattle.std.specs.List.{flat_map}
-use Rattle.rx_seq.specs.declared.calls.Call.{Call}
-use Rattle.rx_set.specs.declared.items.Item.{Item}
-use Rattle.rx_set.specs.declared.items.Item.TheVariants.{Work, Op}
-use Rattle.rx_set.specs.System.{System, task_at, numbers}
+use Rattle.rx_set.specs.Operations.{Asked, script_of}
+use Rattle.rx_set.specs.System.{System, numbers}
 
--- one operation: a call on an object
-pub record Asked : Type 0 where
-  pub object : ℕ
-  pub call : Call
-
-abbrev pub asked : ℕ → Call → Asked
-asked object call = record { object = object; call = call }
-
--- the operations among the items of a body, in order
-abbrev pub operation_of : Item → List Asked
-operation_of (Work ticks) = []
-operation_of (Op object call) = asked object call ∷ []
-
-abbrev pub operations_of : List Item → List Asked
-operations_of items = flat_map operation_of items
-
--- operations so many times, one time after the other
-abbrev pub repeated : ℕ → List Asked → List Asked
-repeated zero operations = []
-repeated (suc times) operations = repeated times operations ++ operations
-
--- the script of a task: the operations of its body, once for each of so many jobs
-abbrev pub script_of : System → ℕ → ℕ → List Asked
-script_of system jobs task = repeated jobs (operations_of (task_at system task).items)
-
--- the tasks of a lane, among the first so many: those whose number, divided by the number of lanes, leaves the lane's
+-- the tasks of a lane, among the first so many: those whose number has the lane's as its remainder by the number of lanes
 abbrev pub is_of : ℕ → ℕ → ℕ → Bool
 is_of workers lane task = (task % workers) == lane
 

@@ -1,6 +1,7 @@
 // Lanes, each of which makes the scripts of its tasks with a seat of its own.
+ghost use Rattle.rx_set.specs.Operations.{asked, operations_of, repeated};
 ghost use Rattle.rx_lanes.specs.Lanes.{Adds, CanMakeAll, HasRoom, IsNew};
-ghost use Rattle.rx_lanes.specs.Scripts.{asked, lane_script, operations_of, repeated};
+ghost use Rattle.rx_lanes.specs.Scripts.{lane_script};
 ghost use Rattle.rx_seq.specs.History.{part_at};
 ghost use Rattle.rx_seq.specs.Table.{fits_part};
 ghost use Rattle.rx_set.specs.System.{parts_of};

@@ -1,7 +1,8 @@
 // The entries of each task, from its script and the answers of its lane.
+ghost use Rattle.rx_set.specs.Operations.{Asked, operations_of, repeated, script_of};
 ghost use Rattle.rx_lanes.specs.Lists.{IsTold};
 ghost use Rattle.rx_lanes.specs.Runs.{answers_at, items_of};
-ghost use Rattle.rx_lanes.specs.Scripts.{Asked, calls_to, lane_script, operations_of, repeated, script_of};
+ghost use Rattle.rx_lanes.specs.Scripts.{calls_to, lane_script};
 ghost use Rattle.rx_lanes.specs.declared.answers.Answer.{Answer as AnAnswer};
 ghost use Rattle.rx_merge.specs.Merged.{list_at, lists_of as plain_lists};
 ghost use Rattle.std.specs.Prelude.{ℕ, ◌≡◌, ◌+◌, ◌≤◌, ◌<◌, ◌%◌, ◌++◌, List, IfOk, drop, take, length, vec_capacity};

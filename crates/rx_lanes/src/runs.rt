@@ -1,12 +1,9 @@
 // Whole runs.
-ghost use Rattle.rx_lanes.specs.Lists.{plain};
-ghost use Rattle.rx_lanes.specs.Runs.{AreKept, AreLists, AreShared, items_of, table_of};
-ghost use Rattle.rx_lanes.specs.Scripts.{script_of};
-ghost use Rattle.rx_merge.specs.Merged.{AreOf, entries_on, lists_of as plain_lists, merged};
-ghost use Rattle.rx_seq.specs.Legal.{IsLegal};
-ghost use Rattle.rx_set.specs.System.{numbers, parts_of};
+ghost use Rattle.rx_lanes.specs.Histories.{HaveSameObjects, IsMade, made_of};
+ghost use Rattle.rx_lanes.specs.Runs.{AreKept, AreLists, AreShared, items_of, lists_in, table_of};
+ghost use Rattle.rx_merge.specs.Merged.{lists_of as plain_lists, merged};
 ghost use Rattle.rx_table.specs.Closings.{HasEnded};
-ghost use Rattle.std.specs.Prelude.{ℕ, ◌≡◌, ◌≤◌, IfOk, length, map, reverse, sum_by};
+ghost use Rattle.std.specs.Prelude.{◌≡◌, ◌≤◌, IfOk, length, reverse};
 
 use crate::answers::Answer;
 use crate::gates::Gate;
@@ -71,9 +68,9 @@ fn put_together(
     ensures closed { IfOk result (λ run. run.closed ≡ closed) }
     ensures lanes { IfOk result (λ run. AreShared set.now workers (plain_lists run.lists.items) run.closed.history) }
     ensures merged { IfOk result (λ run. run.merged.items ≡ reverse (merged (plain_lists run.lists.items))) }
-    ensures legal { IfOk result (λ run. IsLegal (parts_of set.now) 0 (reverse run.merged.items)) }
-    ensures whole { IfOk result (λ run. length run.merged.items ≡ sum_by (λ task. length (script_of set.now jobs task)) (numbers (length set.now.tasks))) }
-    ensures objects { IfOk result (λ run. (object : ℕ) → map plain (entries_on object (reverse run.merged.items)) ≡ map plain (entries_on object run.closed.history)) }
+    ensures own { IfOk result (λ run. lists_in set.now (reverse run.merged.items) ≡ plain_lists run.lists.items) }
+    ensures made { IfOk result (λ run. IsMade (made_of set.now workers jobs (reverse run.merged.items))) }
+    ensures objects { IfOk result (λ run. HaveSameObjects (reverse run.merged.items) run.closed.history) }
 {
     merges_are_histories();
     let lists = lists_of(alloc, set, jobs, workers, answers)?;
@@ -94,7 +91,8 @@ fn put_together(
 /// the library's join, one after the other where no thread can be made.
 ///
 /// The lists have each task's calls with their replies and tags. All lists are one legal history, whatever the threads did:
-/// they are merged into one order, which has on each object the entries of the closed table in the same order.
+/// they are merged into one order, which has of each task its list, and on each object the entries of the closed table in
+/// the same order. The words of that table stand for its own history.
 ///
 /// It refuses want of memory alone. What the lanes need, 16 bytes for each operation, is taken before the first one starts;
 /// that of the closing, of the lists and of the merged order after the last one ended. Its cost is that of all operations,
@@ -111,11 +109,12 @@ pub fn run_lanes<R: Threads + Sync, G: Gate + Sync>(
     requires jobs { (1 ≤ jobs) × (jobs ≤ 200) }
     ensures lists { IfOk result (λ run. AreLists set.now jobs (plain_lists run.lists.items)) }
     ensures table { IfOk result (λ run. run.closed.layout ≡ table_of set.now workers) }
+    ensures ended { IfOk result (λ run. HasEnded run.closed) }
     ensures lanes { IfOk result (λ run. AreShared set.now workers (plain_lists run.lists.items) run.closed.history) }
     ensures merged { IfOk result (λ run. run.merged.items ≡ reverse (merged (plain_lists run.lists.items))) }
-    ensures legal { IfOk result (λ run. IsLegal (parts_of set.now) 0 (reverse run.merged.items)) }
-    ensures whole { IfOk result (λ run. length run.merged.items ≡ sum_by (λ task. length (script_of set.now jobs task)) (numbers (length set.now.tasks))) }
-    ensures objects { IfOk result (λ run. (object : ℕ) → map plain (entries_on object (reverse run.merged.items)) ≡ map plain (entries_on object run.closed.history)) }
+    ensures own { IfOk result (λ run. lists_in set.now (reverse run.merged.items) ≡ plain_lists run.lists.items) }
+    ensures made { IfOk result (λ run. IsMade (made_of set.now workers jobs (reverse run.merged.items))) }
+    ensures objects { IfOk result (λ run. HaveSameObjects (reverse run.merged.items) run.closed.history) }
 {
     let (closed, answers) = make_all(rt, alloc, set, workers, jobs, gate)?;
     put_together(alloc, set, workers, jobs, closed, answers.as_slice())

@@ -1,5 +1,6 @@
 // How many operations there are in scripts.
-ghost use Rattle.rx_lanes.specs.Scripts.{calls_to, operations_of, script_of};
+ghost use Rattle.rx_set.specs.Operations.{operations_of, script_of};
+ghost use Rattle.rx_lanes.specs.Scripts.{calls_to};
 ghost use Rattle.std.specs.Prelude.{◌≡◌, ◌≤◌, ◌<◌, ◌*◌, length};
 
 use rx_set::{Item, TaskSet};

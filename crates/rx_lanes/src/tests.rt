@@ -1,10 +1,11 @@
-// Two tasks that add to one cell, by one lane and by several, and two lanes that meet at a gate.
+// Two tasks that add to one cell, by one lane and by several, and gates that lanes pass.
 use super::*;
 use rx_seq::{Call, Kind, NoMemory, Part, State};
 use rx_set::{Body, Item, Name, Object, Policy, Task, TaskSet};
 use std::alloc::Global;
+use std::array::from_fn;
 use std::process::Abort;
-use std::sync::atomic::{AtomicBool, Ordering};
+use std::sync::atomic::{AtomicBool, AtomicU64, Ordering};
 use std::test::Fail;
 
 /// A task that adds 1 to a cell, and one that adds 5 to it.
@@ -105,6 +106,132 @@ fn adds_of_two_tasks(rt: HostRuntime) -> Result<(), Fail> {
             Err(NoMemory) => return Err("no memory".into()),
         };
         check_adds(&rt, &run, workers);
+    }
+    Ok(())
+}
+
+/// Counts the operations of each lane, and says whether one of them had not the next number of its lane, or its lane a
+/// number above 15.
+#[derive(Drop)]
+struct Counting {
+    passed: [AtomicU64; 16],
+    astray: AtomicBool,
+}
+
+impl Gate for Counting {
+    fn pass(&self, lane: u32, index: u64) {
+        match self.passed.get(lane as usize) {
+            Some(passed) => {
+                let before = passed.fetch_add(1, Ordering::SeqCst);
+                if before.checked_add(1) != Some(index) {
+                    self.astray.store(true, Ordering::SeqCst);
+                }
+            }
+            None => self.astray.store(true, Ordering::SeqCst),
+        }
+    }
+}
+
+/// Checks that each operation had its number, and that the lanes made so many of them, and further lanes none.
+fn check_counts(rt: &impl Abort, counting: &Counting, workers: u32, want: &[u64]) {
+    assert!(rt; !counting.astray.load(Ordering::SeqCst), "{workers} lanes");
+    for lane in 0..16 {
+        let count = counting.passed[lane].load(Ordering::SeqCst);
+        assert_eq!(rt;
+            count,
+            want.get(lane).copied().unwrap_or(0),
+            "lane {lane} of {workers}"
+        );
+    }
+}
+
+#[test]
+fn lanes_count_their_operations(rt: HostRuntime) -> Result<(), Fail> {
+    let set = two_tasks(rt.alloc())?;
+    // A lane makes its whole tasks, so that the third and the fourth have none.
+    for (workers, want) in [
+        (1, [100].as_slice()),
+        (2, [50, 50].as_slice()),
+        (4, [50, 50, 0, 0].as_slice()),
+    ] {
+        let counting = Counting {
+            passed: from_fn(|_| AtomicU64::new(0)),
+            astray: AtomicBool::new(false),
+        };
+        match run_lanes(&rt, rt.alloc(), &set, workers, 50, &counting) {
+            Ok(run) => check_adds(&rt, &run, workers),
+            Err(NoMemory) => return Err("no memory".into()),
+        }
+        check_counts(&rt, &counting, workers, want);
+    }
+    Ok(())
+}
+
+/// Whether a flag is set before so many turns have passed.
+fn is_set_in_time(flag: &AtomicBool) -> bool {
+    for _ in 0..200_000_000 {
+        if flag.load(Ordering::SeqCst) {
+            return true;
+        }
+    }
+    false
+}
+
+/// Lane 0 waits before its first operation until lane 1 is at its third one, and lane 1 before its first one until lane 0
+/// is at its own. Were the gate passed after an operation, the first one of lane 0 would come before the second of lane 1.
+#[derive(Drop)]
+struct Waiting {
+    first: AtomicBool,
+    third: AtomicBool,
+    saw_first: AtomicBool,
+    saw_third: AtomicBool,
+}
+
+impl Gate for Waiting {
+    fn pass(&self, lane: u32, index: u64) {
+        match (lane, index) {
+            (0, 1) => {
+                self.first.store(true, Ordering::SeqCst);
+                self.saw_third
+                    .store(is_set_in_time(&self.third), Ordering::SeqCst);
+            }
+            (1, 1) => self
+                .saw_first
+                .store(is_set_in_time(&self.first), Ordering::SeqCst),
+            (1, 3) => self.third.store(true, Ordering::SeqCst),
+            _ => {}
+        }
+    }
+}
+
+/// The tag of an entry of a task, both by their numbers from 0.
+fn tag_at(run: &Run, task: usize, place: usize) -> Option<u64> {
+    Some(run.lists.get(task)?.get(place)?.tag)
+}
+
+#[test]
+fn gates_are_passed_before(rt: HostRuntime) -> Result<(), Fail> {
+    let set = two_tasks(rt.alloc())?;
+    let waiting = Waiting {
+        first: AtomicBool::new(false),
+        third: AtomicBool::new(false),
+        saw_first: AtomicBool::new(false),
+        saw_third: AtomicBool::new(false),
+    };
+    let run = match run_lanes(&rt, rt.alloc(), &set, 2, 3, &waiting) {
+        Ok(run) => run,
+        Err(NoMemory) => return Err("no memory".into()),
+    };
+    assert!(&rt; waiting.saw_first.load(Ordering::SeqCst));
+    assert!(&rt; waiting.saw_third.load(Ordering::SeqCst));
+    let Some(later) = tag_at(&run, 0, 0) else {
+        return Err("no entry of lane 0".into());
+    };
+    for place in 0..2 {
+        let Some(earlier) = tag_at(&run, 1, place) else {
+            return Err("too few entries of lane 1".into());
+        };
+        assert!(&rt; earlier < later, "{earlier} and {later}");
     }
     Ok(())
 }

@@ -2,6 +2,7 @@ pub mod Names
 pub mod System
 pub mod Valid
 pub mod View
+pub mod Operations
 pub mod Orders
 pub mod Ranked
 pub mod Admission

@@ -17,8 +17,9 @@ use Rattle.rx_set.specs.System.{System, task_at, task_of, parts_of, demanded}
 use Rattle.rx_set.specs.Valid.{IsValid}
 use Rattle.rx_set.proofs.Keys.{key_order}
 use Rattle.rx_set.proofs.Releases.{release_order}
-use Rattle.rx_tick.specs.Schedule.{Slot, Idle, Busy, Decide, Progress, Asked, job_in, same, start, ticked, completed, ends_work, progress, is_finished, history, jobs_of, slots, slot_at}
-use Rattle.rx_tick.specs.Laws.{who, finished_before, slots_of, asked_by, nth_job, operation_of, operations_of, operations_up_to, made_by, operations_in, IsPendingAt, FollowsBodies}
+use Rattle.rx_set.specs.Operations.{Asked, asked_of, operation_of, operations_of}
+use Rattle.rx_tick.specs.Schedule.{Slot, Idle, Busy, Decide, Progress, job_in, same, start, ticked, completed, ends_work, progress, is_finished, history, jobs_of, slots, slot_at}
+use Rattle.rx_tick.specs.Laws.{who, finished_before, slots_of, asked_by, nth_job, operations_up_to, operations_in, IsPendingAt, FollowsBodies}
 use Rattle.rx_tick.proofs.Lists.{some_same, none_not}
 use Rattle.rx_tick.proofs.Choices.{idle_none, who_pending, who_least}
 use Rattle.rx_tick.proofs.Steps.{IsOther, IsOwn, Goes, Works, Loses, Wins, item_in, made_in, busy_after, other_slot, own_at}
@@ -106,17 +107,17 @@ other_number : (a b : ℕ) → a ≢ b → (a == b) ≡ false
 other_number a b h = grind (arith, nat_tests)
 
 -- one more entry, of the task or of another
-entry_of : (task : ℕ) (entry : Entry) (before : List Entry) → entry.caller ≡ task → operations_in task (entry ∷ before) ≡ operations_in task before ++ (made_by entry ∷ [])
+entry_of : (task : ℕ) (entry : Entry) (before : List Entry) → entry.caller ≡ task → operations_in task (entry ∷ before) ≡ operations_in task before ++ (asked_of entry ∷ [])
 entry_of task entry before e =
     let mine : (task == entry.caller) ≡ true = ap (λ (t : ℕ). task == t) e ∙ same_number task in
-    ap (λ (b : Bool). map made_by (reverse (if b then entry ∷ entries_of task before else entries_of task before))) mine
-    ∙ ap (map made_by) (reverse_onto (entries_of task before) entry [])
-    ∙ map-append made_by (reverse (entries_of task before)) (entry ∷ [])
+    ap (λ (b : Bool). map asked_of (reverse (if b then entry ∷ entries_of task before else entries_of task before))) mine
+    ∙ ap (map asked_of) (reverse_onto (entries_of task before) entry [])
+    ∙ map-append asked_of (reverse (entries_of task before)) (entry ∷ [])
 
 entry_of_other : (task : ℕ) (entry : Entry) (before : List Entry) → entry.caller ≢ task → operations_in task (entry ∷ before) ≡ operations_in task before
 entry_of_other task entry before h =
     let other : (task == entry.caller) ≡ false = other_number task entry.caller (λ e. h (sym e)) in
-    ap (λ (b : Bool). map made_by (reverse (if b then entry ∷ entries_of task before else entries_of task before))) other
+    ap (λ (b : Bool). map asked_of (reverse (if b then entry ∷ entries_of task before else entries_of task before))) other
 
 -- a tick of the task's job in hand
 module _ (system : System) (task : ℕ) (past : List Slot) (slot : Slot) (s : IsServed system task past) (owner : job_in slot ≡ Some (nth_job task (suc s.finished))) where

@@ -12,7 +12,8 @@ use Rattle.rx_set.specs.System.{System, key, is_below, release, numbers, item_at
 use Rattle.rx_set.specs.Valid.{IsValid, IsJobOf}
 use Rattle.rx_set.proofs.Keys.{below_not, below_trans, jobs_same}
 use Rattle.rx_set.proofs.Releases.{number_bound}
-use Rattle.rx_tick.specs.Schedule.{Slot, Idle, Busy, Decide, Asked, job_in, sooner, chosen, is_pending, is_finished, jobs_of, all_jobs, progress, slots, slot_at, slot_of, tick_in, decides}
+use Rattle.rx_set.specs.Operations.{Asked}
+use Rattle.rx_tick.specs.Schedule.{Slot, Idle, Busy, Decide, job_in, sooner, chosen, is_pending, is_finished, jobs_of, all_jobs, progress, slots, slot_at, slot_of, tick_in, decides}
 use Rattle.rx_tick.specs.Laws.{who, IsPendingAt, IsLeastAt}
 use Rattle.rx_tick.proofs.Lists.{some_same, none_not}
 use Rattle.rx_tick.proofs.Prefixes.{slots_count}

@@ -11,8 +11,9 @@ use Rattle.rx_set.specs.System.{System, task_at, task_of, item_at, due}
 use Rattle.rx_set.specs.Valid.{IsJob}
 use Rattle.rx_ledger.specs.declared.events.Event.{Event}
 use Rattle.rx_ledger.specs.declared.events.Event.TheVariants.{Preempt}
+use Rattle.rx_set.specs.Operations.{Asked}
 use Rattle.rx_tick.specs.declared.states.State.{State}
-use Rattle.rx_tick.specs.Schedule.{Slot, Idle, Busy, Decide, Progress, completed, lost, ticked, after, sooner, job_in, same, progress, is_finished, ends_work, decides, tick_in, slot_of, next_slot, slot_at, chosen, slots, Asked}
+use Rattle.rx_tick.specs.Schedule.{Slot, Idle, Busy, Decide, Progress, completed, lost, ticked, after, sooner, job_in, same, progress, is_finished, ends_work, decides, tick_in, slot_of, next_slot, slot_at, chosen, slots}
 use Rattle.rx_tick.specs.Events.{last_job, preempted, decision, finish, finished_in, events_of, misses, releases}
 use Rattle.rx_tick.specs.States.{job, no_state, state_at, progress_of, with_progress, after_slot, IsState, AreStates, IsBeforeDue, AreBeforeDue, AreBeforeRelease, IsOffered, offer, best_of}
 use Rattle.rx_tick.specs.Laws.{who}

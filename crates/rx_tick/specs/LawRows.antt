@@ -5,9 +5,10 @@ use Rattle.rx_seq.specs.History.{tag_of}
 use Rattle.rx_seq.specs.declared.calls.Call.TheVariants.{Add}
 use Rattle.rx_seq.specs.declared.replies.Reply.TheVariants.{Done}
 use Rattle.rx_set.specs.System.{task_at}
+use Rattle.rx_set.specs.Operations.{operations_of}
 use Rattle.rx_tick.specs.Schedule.{Idle, Busy, Decide, history, wins_on, slots, slot_at}
 use Rattle.rx_tick.specs.Events.{wins, wins_below}
-use Rattle.rx_tick.specs.Laws.{who, so_far, finished_before, IsReply, IsRetry, slots_of, asked_up_to, lost_ticks, nth_job, operations_of, operations_up_to, operations_in, IsAmid}
+use Rattle.rx_tick.specs.Laws.{who, so_far, finished_before, IsReply, IsRetry, slots_of, asked_up_to, lost_ticks, nth_job, operations_up_to, operations_in, IsAmid}
 use Rattle.rx_tick.specs.Rows.{job, work_alone, retried, nested, two_calls}
 use Rattle.rx_tick.specs.Sums.{tried_slots, opened_slots, decided_slots}
 

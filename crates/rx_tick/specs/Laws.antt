@@ -10,7 +10,8 @@ use Rattle.rx_set.specs.declared.items.Item.TheVariants.{Work, Op}
 use Rattle.rx_set.specs.declared.jobs.Job.{Job}
 use Rattle.rx_set.specs.System.{System, task_at, task_of, item_at, attempt_cost, release, key, is_below}
 use Rattle.rx_set.specs.Valid.{IsJobOf}
-use Rattle.rx_tick.specs.Schedule.{Slot, Idle, Busy, Decide, Progress, Asked, jobs_of, progress, is_finished, job_in, same, history, slots, slot_at, wins_on}
+use Rattle.rx_set.specs.Operations.{Asked, asked_of, operations_of}
+use Rattle.rx_tick.specs.Schedule.{Slot, Idle, Busy, Decide, Progress, jobs_of, progress, is_finished, job_in, same, history, slots, slot_at, wins_on}
 
 -- the job that has slot n
 abbrev pub who : System → ℕ → Option Job
@@ -113,24 +114,13 @@ pub record IsAmid (system : System) (job : Job) (first complete at : ℕ) : Type
 abbrev pub nth_job : ℕ → ℕ → Job
 nth_job task number = record { task = task; number = number }
 
--- the operations among the items of a body, in order
-abbrev pub operation_of : Item → List Asked
-operation_of (Work ticks) = []
-operation_of (Op object call) = record { object = object; call = call } ∷ []
-
-abbrev pub operations_of : List Item → List Asked
-operations_of items = flat_map operation_of items
-
--- those of the bodies of the jobs 1 to n of a task, job after job
+-- the operations of the bodies of the jobs 1 to n of a task, job after job
 abbrev pub operations_up_to : System → ℕ → ℕ → List Asked
 operations_up_to system task n = flat_map (λ job. operations_of (task_of system job).items) (jobs_of task n)
 
 -- those that a task's entries made, oldest first
-abbrev pub made_by : Entry → Asked
-made_by entry = record { object = entry.object; call = entry.call }
-
 abbrev pub operations_in : ℕ → List Entry → List Asked
-operations_in task entries = map made_by (reverse (entries_of task entries))
+operations_in task entries = map asked_of (reverse (entries_of task entries))
 
 -- the jobs of a task are finished one after another, and the operations of its entries so far are those of the finished jobs' bodies, and then those of the complete items of the next job
 pub record FollowsBodies (system : System) (task n : ℕ) : Type 0 where

@@ -1,12 +1,12 @@
 -- The schedule of one processor. Slots are kept newest first, so slot n is the one with n slots behind it.
 use Rattle.std.specs.Prelude.{ℕ, zero, suc, ◌+◌, ◌==◌, ◌&&◌, ◌||◌, nat_lt, nat_le, not, Bool, false, if◌then◌else◌, List, [], ◌∷◌, ◌++◌, length, fold, filter, Option, Some, None}
 use Rattle.std.specs.List.{flat_map}
-use Rattle.rx_seq.specs.declared.calls.Call.{Call}
 use Rattle.rx_seq.specs.declared.entries.Entry.{Entry}
 use Rattle.rx_seq.specs.History.{is_loud, entry_after}
 use Rattle.rx_set.specs.declared.items.Item.{Item}
 use Rattle.rx_set.specs.declared.items.Item.TheVariants.{Work, Op}
 use Rattle.rx_set.specs.declared.jobs.Job.{Job}
+use Rattle.rx_set.specs.Operations.{Asked, asked}
 use Rattle.rx_set.specs.System.{System, task_of, parts_of, item_at, attempt_cost, numbers, release, key, is_below}
 
 -- A slot is idle, or one tick of a job. The last tick of an attempt on an object decides it: it is lost, or it wins and makes an entry
@@ -112,25 +112,20 @@ abbrev pub won_after : ℕ → ℕ → List Slot → Bool
 won_after object first [] = false
 won_after object first (slot ∷ past) = (wins_on object slot && nat_lt first (length past)) || won_after object first past
 
--- what an operation asks for
-pub record Asked : Type 0 where
-  pub object : ℕ
-  pub call : Call
-
 -- the operation whose attempt ends with the next tick
 abbrev pub decides : System → Option Item → ℕ → Option Asked
 decides system (Some (Op object call)) made =
-    if made + 1 == attempt_cost system object then Some (record { object = object; call = call }) else None
+    if made + 1 == attempt_cost system object then Some (asked object call) else None
 decides system (Some (Work ticks)) made = None
 decides system None made = None
 
 -- an attempt wins if none on its object won since its first slot
 abbrev pub tick_in : System → List Slot → Job → Progress → Option Asked → Slot
 tick_in system past job p None = Busy job
-tick_in system past job p (Some asked) =
-    Decide job asked.object
-    (if won_after asked.object p.first past then None
-    else Some (entry_after (parts_of system) (history past) job.task asked.object asked.call))
+tick_in system past job p (Some operation) =
+    Decide job operation.object
+    (if won_after operation.object p.first past then None
+    else Some (entry_after (parts_of system) (history past) job.task operation.object operation.call))
 
 abbrev pub tick_of : System → List Slot → Job → Progress → Slot
 tick_of system past job p = tick_in system past job p (decides system (item_at system job p.complete) p.made)

@@ -135,7 +135,7 @@ impl<'s> Executive<'s> {
     /// admission test holds for the set, and the costs that it states are kept, no miss is among the events.
     //
     // It is asked for each slot of a run, and so are the functions inside it: each is a part of this one where it has no
-    // loop, so that the state of a slot stays in registers.
+    // loop, which saves instructions in every slot.
     #[inline(always)]
     pub fn tick(&mut self, out: &mut Tick)
         requires { self.old.time < 2 ^ 40 }

@@ -3,7 +3,7 @@ use Rattle.rx_set.specs.declared.items.Item.TheVariants.{Work, Op}
 use Rattle.rx_seq.specs.declared.replies.Reply.TheVariants.{Done}
 use Rattle.rx_lanes.specs.declared.answers.Answer.{Answer}
 use Rattle.rx_lanes.specs.Lists.{IsTold}
-use Rattle.rx_lanes.specs.Scripts.{Asked, asked, operations_of}
+use Rattle.rx_set.specs.Operations.{Asked, asked, operations_of}
 use Rattle.rx_lanes.proofs.Parts.{operations_more, count_more, count_up}
 use Rattle.rx_lanes.proofs.Listing.{told_more}
 use Rattle.rx_lanes.proofs.lists.add_job.Goals.{in-Work, in-Op}

@@ -1,6 +1,6 @@
 use Rattle.std.proofs.Common.{◌≡◌, ◌+◌, ◌++◌, List, take, length, vec_capacity}
 use Rattle.rx_lanes.specs.Lists.{IsTold}
-use Rattle.rx_lanes.specs.Scripts.{Asked, operations_of}
+use Rattle.rx_set.specs.Operations.{Asked, operations_of}
 use Rattle.rx_lanes.proofs.lists.add_job.Given as goal
 
 abbrev pub invariant-loop-item : goal.invariant-loop-item

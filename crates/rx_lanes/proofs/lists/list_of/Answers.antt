@@ -1,6 +1,6 @@
 use Rattle.std.proofs.Common.{List, length, take, ap, sym, subst, arith, length-append}
 use Rattle.rx_lanes.specs.Lists.{IsTold}
-use Rattle.rx_lanes.specs.Scripts.{Asked, operations_of, repeated}
+use Rattle.rx_set.specs.Operations.{Asked, operations_of, repeated}
 use Rattle.rx_lanes.proofs.Parts.{repeated_next, repeated_more}
 use Rattle.rx_lanes.proofs.lists.list_of.Goals as goal
 

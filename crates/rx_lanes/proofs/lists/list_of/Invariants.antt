@@ -1,6 +1,6 @@
 use Rattle.std.proofs.Common.{◌≡◌, ◌≤◌, take, length, vec_capacity}
 use Rattle.rx_lanes.specs.Lists.{IsTold}
-use Rattle.rx_lanes.specs.Scripts.{operations_of, repeated}
+use Rattle.rx_set.specs.Operations.{operations_of, repeated}
 use Rattle.rx_lanes.proofs.lists.list_of.Given as goal
 
 abbrev pub invariant-loop : goal.invariant-loop

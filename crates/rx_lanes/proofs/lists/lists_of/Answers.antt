@@ -1,9 +1,10 @@
 use Rattle.std.proofs.Common.{ℕ, ◌<◌, ◌+◌, ◌%◌, ◌∙◌, List, length, take, drop, ap, sym, subst₂, arith, length-append, ◌∷◌, []}
 use Rattle.rx_seq.specs.declared.entries.Entry.{Entry}
+use Rattle.rx_set.specs.Operations.{Asked, script_of}
 use Rattle.rx_lanes.specs.declared.answers.Answer.{Answer}
 use Rattle.rx_lanes.specs.Lists.{IsTold}
 use Rattle.rx_lanes.specs.Runs.{answers_at, items_of}
-use Rattle.rx_lanes.specs.Scripts.{Asked, calls_to, script_of}
+use Rattle.rx_lanes.specs.Scripts.{calls_to}
 use Rattle.rx_lanes.proofs.Bodies.{tasks_many, body_at, script_is}
 use Rattle.rx_lanes.proofs.Listing.{each_more}
 use Rattle.rx_lanes.proofs.lists.lists_of.Goals as goal

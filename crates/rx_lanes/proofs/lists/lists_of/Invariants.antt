@@ -1,8 +1,9 @@
 use Rattle.std.proofs.Common.{ℕ, ◌≡◌, ◌<◌, ◌%◌, take, drop, length}
 use Rattle.rx_merge.specs.Merged.{list_at, lists_of}
+use Rattle.rx_set.specs.Operations.{script_of}
 use Rattle.rx_lanes.specs.Lists.{IsTold}
 use Rattle.rx_lanes.specs.Runs.{answers_at, items_of}
-use Rattle.rx_lanes.specs.Scripts.{calls_to, script_of}
+use Rattle.rx_lanes.specs.Scripts.{calls_to}
 use Rattle.rx_lanes.proofs.lists.lists_of.Given as goal
 
 abbrev pub invariant-loop-task : goal.invariant-loop-task

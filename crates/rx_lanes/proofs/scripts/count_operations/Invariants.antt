@@ -1,5 +1,5 @@
 use Rattle.std.proofs.Common.{◌≡◌, ◌≤◌, length, take}
-use Rattle.rx_lanes.specs.Scripts.{operations_of}
+use Rattle.rx_set.specs.Operations.{operations_of}
 use Rattle.rx_lanes.proofs.scripts.count_operations.Given as goal
 
 abbrev pub invariant-loop-item : goal.invariant-loop-item

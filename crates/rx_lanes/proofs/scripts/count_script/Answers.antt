@@ -1,5 +1,5 @@
 use Rattle.std.proofs.Common.{◌≡◌, ◌*◌, ◌∙◌, length, ℕ, ap, arith}
-use Rattle.rx_lanes.specs.Scripts.{operations_of}
+use Rattle.rx_set.specs.Operations.{operations_of}
 use Rattle.rx_lanes.proofs.Bodies.{body_at, script_count, script_few}
 use Rattle.rx_lanes.proofs.scripts.count_script.Goals as goal
 

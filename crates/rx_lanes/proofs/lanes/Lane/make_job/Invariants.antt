@@ -1,6 +1,6 @@
 use Rattle.std.proofs.Common.{take}
 use Rattle.rx_lanes.specs.Lanes.{Adds}
-use Rattle.rx_lanes.specs.Scripts.{operations_of}
+use Rattle.rx_set.specs.Operations.{operations_of}
 use Rattle.rx_lanes.proofs.lanes.Lane.make_job.Given as goal
 
 abbrev pub invariant-loop-item : goal.invariant-loop-item

@@ -1,4 +1,4 @@
-use Rattle.rx_lanes.specs.Scripts.{operations_of}
+use Rattle.rx_set.specs.Operations.{operations_of}
 use Rattle.rx_lanes.proofs.Making.{room_job, adds_job}
 use Rattle.rx_lanes.proofs.lanes.Lane.make_jobs.Goals as goal
 

@@ -1,5 +1,5 @@
 use Rattle.rx_lanes.specs.Lanes.{Adds}
-use Rattle.rx_lanes.specs.Scripts.{operations_of, repeated}
+use Rattle.rx_set.specs.Operations.{operations_of, repeated}
 use Rattle.rx_lanes.proofs.lanes.Lane.make_jobs.Given as goal
 
 abbrev pub invariant-loop : goal.invariant-loop

@@ -1,6 +1,6 @@
 use Rattle.std.proofs.Common.{◌≡◌, ◌<◌, ◌%◌, ◌∙◌, List, length, sym, subst, arith, eq-eqb, ne_eqb}
 use Rattle.rx_lanes.specs.Lanes.{HasRoom, Adds}
-use Rattle.rx_lanes.specs.Scripts.{Asked}
+use Rattle.rx_set.specs.Operations.{Asked}
 use Rattle.rx_lanes.proofs.Bodies.{tasks_many, body_at, script_is, body_fits}
 use Rattle.rx_lanes.proofs.Making.{room_task, adds_task, adds_skip}
 use Rattle.rx_lanes.proofs.lanes.Lane.run.Goals.{then-task-workers, else-task-workers}
