@@ -39,6 +39,13 @@ found_items system tasks k (Some task) is rows valid =
     let inside : k < length system.tasks = omega (arith, is.3.0, ap length rows, length-map tasks row_of) in
     subst (λ (row : TaskRow). All (IsItem system) row.items) (row_read system tasks k task.now rows is.3.0 is.1) (all_items system k valid inside)
 
+-- and has at most 64 of them
+pub found_few : (system : System) (tasks : List Task) (k : ℕ) (task : Task) → k < length tasks → task ≡ get_or tasks k task → map row_of tasks ≡ system.tasks
+    → IsValid system → length task.body ≤ 64
+found_few system tasks k task inside read rows valid =
+    let known : k < length system.tasks = omega (arith, inside, ap length rows, length-map tasks row_of) in
+    subst (λ (row : TaskRow). length row.items ≤ 64) (row_read system tasks k task rows inside read) (valid.tasks k known).some_items.1
+
 few_rows_by : (kind : Kind) (cap count : ℕ) (rows : List Row) → fits_by kind cap (Multi count rows) ≡ true → count ≤ 4
 few_rows_by Cell cap count rows fits = cc
 few_rows_by Queue cap count rows fits = cc

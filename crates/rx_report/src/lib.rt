@@ -3,10 +3,12 @@
 #![tactic(auto)]
 
 mod calls;
+mod entries;
 mod events;
 mod faults;
 mod items;
 mod jobs;
+pub mod laws;
 mod lines;
 mod objects;
 mod replies;
@@ -16,6 +18,7 @@ mod tests;
 mod totals;
 mod verdicts;
 
+pub use entries::{calls_line, entry_line, lanes_line};
 pub use events::event_line;
 pub use faults::fault_line;
 pub use lines::Line;

@@ -3,7 +3,7 @@ ghost use Rattle.std.specs.Prelude.{◌≡◌, ◌<◌, length, IfOk};
 
 use super::*;
 use rx_ledger::Event;
-use rx_seq::{Call, Kind, Part, Reply, Row, State};
+use rx_seq::{Call, Entry, Kind, Part, Reply, Row, State};
 use rx_set::{Body, Item, Job, Name, Object, Policy, Task, TaskSet};
 use std::alloc::Global;
 use std::test::Fail;
@@ -203,4 +203,66 @@ fn writes_ranks(rt: HostRuntime) -> Result<(), Fail> {
         assert_eq!(rt; line.as_slice(), text);
     }
     Ok(())
+}
+
+/// An entry of a caller, with this index, reply and tag.
+const fn told(caller: u32, index: u64, reply: Reply, tag: u64) -> Entry {
+    Entry {
+        caller,
+        index,
+        object: 0,
+        call: Call::Get,
+        reply,
+        tag,
+    }
+}
+
+#[test]
+fn writes_entries(rt: HostRuntime) -> Result<(), Fail> {
+    let cases: [(Entry, &[u8]); 6] = [
+        (
+            told(0, 1, Reply::Differs { v: 0 }, 1),
+            b"a 1 2 swap c 1 2 -> differs 0 tag 1\n",
+        ),
+        (
+            told(0, 2, Reply::Done { v: 1 }, 7),
+            b"a 1 3 multi registers_of_all 3 7 4294967295 -> done 1 tag 7\n",
+        ),
+        (
+            told(0, 3, Reply::Done { v: 2 }, 1_099_511_627_775),
+            b"a 2 2 swap c 1 2 -> done 2 tag 1099511627775\n",
+        ),
+        (
+            told(0, u64::MAX, Reply::Over, u64::MAX),
+            b"a 9223372036854775808 2 swap c 1 2 -> over tag 18446744073709551615\n",
+        ),
+        (
+            told(0, 0, Reply::Over, 0),
+            b"a 1 2 swap c 1 2 -> over tag 0\n",
+        ),
+        (told(1, 3, Reply::Empty, 2), b" 3 1  -> empty tag 2\n"),
+    ];
+    let set = shared(rt.alloc())?;
+    let mut line = Line::new();
+    for (entry, text) in cases {
+        entry_line(&set, &entry, &mut line);
+        assert_eq!(rt; line.as_slice(), text);
+    }
+    Ok(())
+}
+
+#[test]
+fn writes_ends_of_lanes(rt: HostRuntime) {
+    let mut line = Line::new();
+    lanes_line(16, 200, &mut line);
+    assert_eq!(rt; line.as_slice(), b"lanes 16 jobs 200\n".as_slice());
+    lanes_line(u32::MAX, 0, &mut line);
+    assert_eq!(rt; line.as_slice(), b"lanes 4294967295 jobs 0\n".as_slice());
+    calls_line(0, &mut line);
+    assert_eq!(rt; line.as_slice(), b"total calls 0\n".as_slice());
+    calls_line(u64::MAX, &mut line);
+    assert_eq!(rt;
+        line.as_slice(),
+        b"total calls 18446744073709551615\n".as_slice()
+    );
 }

@@ -1,0 +1,128 @@
+// The lines of what the tasks did on threads.
+ghost use Rattle.std.specs.Prelude.{◌≡◌, ◌≤◌, ◌+◌, ◌++◌, length};
+ghost use Rattle.rx_report.specs.LaneLines.{calls_line, entry_item, entry_job, entry_line, entry_text, item_after, lanes_line, operations};
+ghost use Rattle.rx_set.specs.Operations.{operations_of};
+ghost use Rattle.rx_set.specs.System.{task_at};
+
+use crate::items::push_item;
+use crate::jobs::push_job;
+use crate::lines::{Line, push_field, push_spaced, push_text};
+use crate::replies::push_reply;
+use rx_seq::Entry;
+use rx_set::{Item, Job, TaskSet};
+
+/// How many of these items are operations.
+fn count_operations(items: &[Item]) -> u64
+    ensures { result ≡ length (operations_of items.now) }
+{
+    let mut count = 0;
+    for item in items {
+        match item {
+            Item::Work { n: _ } => {}
+            Item::Op { object: _, call: _ } => count += 1,
+        }
+    }
+    count
+}
+
+/// The number, from 1, of the item that is the operation of this number, from 0.
+fn item_after(number: u64, items: &[Item]) -> u32
+    requires { length items.now ≤ 64 }
+    ensures { result ≡ item_after number items.now }
+{
+    let mut left = number;
+    let mut place = 1;
+    for item in items {
+        match item {
+            Item::Work { n: _ } => {}
+            Item::Op { object: _, call: _ } => {
+                if left == 0 {
+                    return place;
+                }
+                left -= 1;
+            }
+        }
+        place += 1;
+    }
+    place
+}
+
+/// The items of a task, if the set has it.
+fn items_of(set: &TaskSet, task: u32) -> &[Item]
+    ensures value { result.now ≡ (task_at set.now task).items }
+    ensures few { length result.now ≤ 64 }
+{
+    match set.tasks().get(task as usize) {
+        Some(task) => task.body.items(),
+        None => &[],
+    }
+}
+
+/// The job that made an entry, and the number of its item.
+fn made_by(set: &TaskSet, entry: &Entry) -> (Job, u32)
+    ensures job { result.0 ≡ entry_job set.now entry.now }
+    ensures item { result.1 ≡ entry_item set.now entry.now }
+{
+    let items = items_of(set, entry.caller);
+    let operations = count_operations(items).max(1);
+    let before = entry.index.saturating_sub(1);
+    let job = Job {
+        task: entry.caller,
+        number: before / operations + 1,
+    };
+    (job, item_after(before % operations, items))
+}
+
+/// Appends what an entry tells, which is at most 282 bytes.
+fn push_entry(set: &TaskSet, entry: &Entry, line: &mut Line)
+    requires { length line.old.items + 282 ≤ 1024 }
+    ensures text { line.new.items ≡ line.old.items ++ entry_text set.now entry.now }
+    ensures few { length line.new.items ≤ length line.old.items + 282 }
+{
+    let (job, item) = made_by(set, entry);
+    push_job(set, job, line);
+    push_spaced(line, u64::from(item));
+    push_text(line, b" ");
+    push_item(set, job, item, line);
+    push_text(line, b" -> ");
+    push_reply(line, entry.reply);
+    push_field(line, b" tag", entry.tag);
+}
+
+/// Makes `out` the first line of what several lanes did, with its line feed: `lanes W jobs J`, where W is how many lanes
+/// there were, and J how many jobs each task made. What stood in `out` is gone. It takes no memory, and its cost is that
+/// of the bytes written.
+pub fn lanes_line(workers: u32, jobs: u32, out: &mut Line)
+    ensures { out.new.items ≡ lanes_line workers jobs }
+{
+    out.clear();
+    push_field(out, b"lanes", u64::from(workers));
+    push_field(out, b" jobs", u64::from(jobs));
+    push_text(out, b"\n");
+}
+
+/// Makes `out` the line of an entry whose caller is a task of the set, with its line feed: `T J I C -> Y tag G`, the name
+/// of the task, the number of the job, that of the item and what it asks for, the reply, and the object's tag after it.
+/// What stood in `out` is gone. The job and the item follow from the entry's index, which counts the operations of all
+/// jobs of the task from 1: each job makes those of its body in order.
+///
+/// It can be asked of every entry: the text of a task that the set has not is empty, so is that of an item where the body
+/// has no operation, and index 0 stands for 1. It takes no memory, and its cost is that of the bytes written and of
+/// looking at each item of the body.
+pub fn entry_line(set: &TaskSet, entry: &Entry, out: &mut Line)
+    ensures { out.new.items ≡ entry_line set.now entry.now }
+{
+    out.clear();
+    push_entry(set, entry, out);
+    push_text(out, b"\n");
+}
+
+/// Makes `out` the last line of what several lanes did, with its line feed: `total calls N`. What stood in `out` is gone.
+/// It takes no memory, and its cost is that of the bytes written.
+pub fn calls_line(count: u64, out: &mut Line)
+    ensures { out.new.items ≡ calls_line count }
+{
+    out.clear();
+    push_field(out, b"total calls", count);
+    push_text(out, b"\n");
+}
