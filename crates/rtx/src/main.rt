@@ -10,11 +10,13 @@ ghost use Rattle.std.specs.Prelude.{◌≡◌, ◌≢◌};
 ghost use Rattle.rx_top.specs.declared.status.Status.TheVariants.{WriteFault};
 
 use rx_io::{InSource, OutSink};
+use rx_lanes::NoGate;
 use rx_top::{Left, Status, top};
 use std::alloc::Global;
 use std::io::{BufWriter, ErrorKind, Write};
 use std::process::ExitCode;
 use std::rt::Env;
+use std::thread::Threads;
 use std::{env, io};
 
 // How many bytes of the output are gathered before they are handed to the system.
@@ -53,7 +55,7 @@ fn finish<W: Write + Drop>(status: Status, mut writer: BufWriter<W>) -> Status
 }
 
 /// Answers the words over standard input and standard output.
-fn answer(rt: &(impl Input + Print), alloc: Global, words: &[String]) -> Status {
+fn answer(rt: &(impl Input + Print + Threads + Sync), alloc: Global, words: &[String]) -> Status {
     let mut writer = match BufWriter::with_capacity(alloc, GATHERED, io::writer(rt)) {
         Ok(writer) => writer,
         Err(_) => return Status::NoMemory,
@@ -61,7 +63,7 @@ fn answer(rt: &(impl Input + Print), alloc: Global, words: &[String]) -> Status 
     let mut source = InSource::new(rt.reader());
     let mut sink = OutSink::new(&mut writer);
     let mut left = Left::Nothing;
-    let status = top(alloc, words, &mut source, &mut sink, &mut left);
+    let status = top(rt, alloc, words, &mut source, &mut sink, &NoGate, &mut left);
     finish(status, writer)
 }
 

@@ -21,7 +21,8 @@ pub drawn_told : (system : System) (number ticks : ℕ) (old new : Option (List 
 drawn_told system number ticks old new before after bank same valid left written kept = record {
   status = refl;
   valid = valid;
-  bank = subst (λ (s : System). IsBankLeft s ticks bank) same left;
+  made = tt;
+  leaves = subst (λ (s : System). IsBankLeft s ticks bank) same left;
   written = subst (λ (s : System). Appends old new (drawn_report s ticks)) same written;
   no_fault = kept;
 }
@@ -30,6 +31,7 @@ drawn_told system number ticks old new before after bank same valid left written
 pub drawn_cut : (system : System) (number ticks : ℕ) (old new : Option (List ℕ)) (before after : ℕ) (left : Left) → system ≡ generated number
     → Began old new (drawn_report system ticks) → before < after → left ≡ Nothing → Cut (draw_answer ticks number) old new before after left
 drawn_cut system number ticks old new before after left same written failed nothing = record {
+  made = tt;
   written = subst (λ (s : System). Began old new (drawn_report s ticks)) same written;
   fault = failed;
   nothing = nothing;
@@ -39,11 +41,12 @@ module _ (number faults before after : ℕ) (rest old new : Option (List ℕ)) (
   told_is : (result : Status) → Told (draw_answer drawn_ticks number) old new before after left result → Answered (Some (Draw number)) (ends rest faults old before) (ends rest faults new after) left result
   told_is result told = record {
     input = [];
+    history = [];
     output = (draw_answer drawn_ticks number).output;
     read = refl;
     valid = told.valid;
-    bank = told.bank;
-    answer = record { status = told.status; bytes = refl };
+    leaves = told.leaves;
+    answer = record { status = told.status; bytes = refl; made = tt };
     written = told.written;
     no_read_fault = refl;
     no_write_fault = told.no_fault;
@@ -52,10 +55,11 @@ module _ (number faults before after : ℕ) (rest old new : Option (List ℕ)) (
   cut_is : Cut (draw_answer drawn_ticks number) old new before after left → WriteFailed (Some (Draw number)) (ends rest faults old before) (ends rest faults new after) left
   cut_is cut = record {
     input = [];
+    history = [];
     status = Done;
     output = (draw_answer drawn_ticks number).output;
     read = refl;
-    answer = record { status = refl; bytes = refl };
+    answer = record { status = refl; bytes = refl; made = tt };
     written = cut.written;
     no_read_fault = refl;
     write_fault = cut.fault;

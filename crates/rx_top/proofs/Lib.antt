@@ -2,6 +2,7 @@ pub mod Counting
 pub mod Banks
 pub mod NoMisses
 pub mod Lines
+pub mod Sharing
 pub mod Noting
 pub mod Outcomes
 pub mod Drawings

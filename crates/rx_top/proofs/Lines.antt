@@ -18,22 +18,22 @@ pub no_lines : (system : System) (n : ℕ) (told : List Event) → told ≡ even
     → lines_of system (events_of system (slots system n) (slot_at system n)) ≡ []
 no_lines system n told same none = ap (lines_of system) (sym same ∙ none)
 
--- one more line
-pub lines_next : (system : System) (xs : List Event) (i : ℕ) (d : Event) → i < length xs
-    → lines_of system (take (i + 1) xs) ≡ lines_of system (take i xs) ++ event_line system (get_or xs i d)
-lines_next system xs i d h =
-    ap (lines_of system) (take_at_read xs i d h).1
-    ∙ lines_append system (take i xs) (get_or xs i d ∷ [])
-    ∙ ap (λ r. lines_of system (take i xs) ++ r) (append-nil (event_line system (get_or xs i d)))
+-- one more item of those that each have a text
+pub text_next : {X : Type 0} (text : X → List ℕ) (xs : List X) (i : ℕ) (d : X) → i < length xs
+    → flat_map text (take (i + 1) xs) ≡ flat_map text (take i xs) ++ text (get_or xs i d)
+text_next text xs i d h =
+    ap (flat_map text) (take_at_read xs i d h).1
+    ∙ flat_map-append text (take i xs) (get_or xs i d ∷ [])
+    ∙ ap (λ r. flat_map text (take i xs) ++ r) (append-nil (text (get_or xs i d)))
 
--- a line, and those before and after it
-pub lines_around : (system : System) (xs : List Event) (i : ℕ) (d : Event) → i < length xs
-    → lines_of system xs ≡ lines_of system (take i xs) ++ (event_line system (get_or xs i d) ++ lines_of system (drop (i + 1) xs))
-lines_around system xs i d h =
-    ap (lines_of system) (sym (take-append-drop (i + 1) xs))
-    ∙ lines_append system (take (i + 1) xs) (drop (i + 1) xs)
-    ∙ ap (λ r. r ++ lines_of system (drop (i + 1) xs)) (lines_next system xs i d h)
-    ∙ append_assoc (lines_of system (take i xs)) (event_line system (get_or xs i d)) (lines_of system (drop (i + 1) xs))
+-- an item's text, and those before and after it
+pub text_around : {X : Type 0} (text : X → List ℕ) (xs : List X) (i : ℕ) (d : X) → i < length xs
+    → flat_map text xs ≡ flat_map text (take i xs) ++ (text (get_or xs i d) ++ flat_map text (drop (i + 1) xs))
+text_around text xs i d h =
+    ap (flat_map text) (sym (take-append-drop (i + 1) xs))
+    ∙ flat_map-append text (take (i + 1) xs) (drop (i + 1) xs)
+    ∙ ap (λ r. r ++ flat_map text (drop (i + 1) xs)) (text_next text xs i d h)
+    ∙ append_assoc (flat_map text (take i xs)) (text (get_or xs i d)) (flat_map text (drop (i + 1) xs))
 
 -- one more slot
 pub events_next : (system : System) (n : ℕ) → events system (n + 1) ≡ events system n ++ events_of system (slots system n) (slot_at system n)

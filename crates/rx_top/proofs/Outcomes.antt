@@ -1,9 +1,11 @@
 -- From the outcome of a call to the one answer that it gives.
-use Rattle.std.proofs.Common.{ℕ, ◌≡◌, ◌≢◌, ◌≤◌, ◌<◌, ◌+◌, ◌==◌, ◌↔◌, inl, inr, codes, get_or, if◌then◌else◌, true, false, List, [], ◌++◌, length, drop, Option, Some, None, IfSome, refl, sym, ap, ◌∙◌, subst, append-nil, true≢false, arith}
+use Rattle.std.proofs.Common.{ℕ, ◌≡◌, ◌≢◌, ◌≤◌, ◌<◌, ◌+◌, ◌==◌, ◌↔◌, inl, inr, codes, get_or, if◌then◌else◌, Bool, true, false, List, [], ◌++◌, length, drop, Option, Some, None, IfSome, refl, sym, ap, ◌∙◌, subst, append-nil, true≢false, slice_get, arith}
 use Rattle.std.proofs.Math.Seq.{drop-append_seam}
 use Rattle.std.proofs.Math.ListN.{drop_of_length-le}
 use Rattle.std.proofs.lemmas.Bool.{cases_lt, lt-leb, le-leb}
 use Rattle.std.proofs.lemmas.List.{length-append}
+use Rattle.std.proofs.lemmas.Option.{slice_get-map}
+use Rattle.std.specs.Option.{option_map}
 use Rattle.std.specs.Io.KnownBytes.{Appends}
 use Rattle.rx_io.specs.Causes.{IsInput}
 use Rattle.rx_set.specs.declared.policies.Policy.{Policy}
@@ -31,16 +33,25 @@ use Rattle.rx_report.specs.SpanLines.{edf_line}
 use Rattle.rx_top.specs.Drawn.{drawn_ticks}
 use Rattle.rx_file.specs.SetOf.{set_of}
 use Rattle.rx_top.specs.declared.left.Left.{Left}
-use Rattle.rx_top.specs.declared.left.Left.TheVariants.{Nothing, Bank}
+use Rattle.rx_top.specs.declared.left.Left.TheVariants.{Nothing, Bank, Closed}
 use Rattle.rx_top.specs.declared.status.Status.{Status}
 use Rattle.rx_top.specs.declared.status.Status.TheVariants.{Done, Adverse, Words, ReadFault, TooLarge, NotToml, BadSet, WriteFault, NoMemory, Wide, Long}
+use Rattle.rx_seq.specs.declared.entries.Entry.{Entry}
 use Rattle.rx_top.specs.declared.words.Command.{Command}
 use Rattle.rx_top.specs.declared.words.Command.TheVariants.{Ask, Draw}
-use Rattle.rx_top.specs.Words.{reads_input}
-use Rattle.rx_top.specs.Leaves.{Leaves, ran}
+use Rattle.rx_top.specs.declared.words.Query.TheVariants.{Run, Admit, Lanes}
+use Rattle.rx_top.specs.Words.{reads_input, uses_threads}
+use Rattle.rx_set.specs.declared.items.Item.TheVariants.{Op}
+use Rattle.rx_set.specs.Operations.{Asked, asked_of, script_of}
+use Rattle.rx_lanes.specs.Histories.{IsMade, made_of}
+use Rattle.rx_lanes.specs.Runs.{entries_by}
+use Rattle.rx_report.specs.Lines.{item_of}
+use Rattle.rx_report.specs.LaneLines.{entry_item, entry_job}
+use Rattle.rx_top.specs.LaneReport.{TellsCalls}
+use Rattle.rx_top.specs.Leaves.{LeaveBank, Leaves}
 use Rattle.rx_top.specs.Tests.{test_line_by}
-use Rattle.rx_top.specs.Outcome.{Ends, Answer, answer, admit_answer, admit_status_by, draw_answer, edf_status, fixed_status, input_answer, file_answer, large_answer, run_answer, set_answer, most_input, Outcome, Answered, Headline, Admission, Drawing, AnswersServed, AnswersFits, MeansTest, SaysYes, Charges, ChargesRanks}
-use Rattle.rx_top.specs.Determined.{is_calm, IsDetermined, Determined, Unread}
+use Rattle.rx_top.specs.Outcome.{Ends, Answer, answer, admit_answer, admit_status_by, draw_answer, edf_status, fixed_status, input_answer, file_answer, large_answer, lanes_answer, run_answer, set_answer, most_input, Outcome, Answered, Headline, Admission, Sharing, Drawing, AnswersServed, AnswersFits, MeansTest, SaysYes, Charges, ChargesRanks}
+use Rattle.rx_top.specs.Determined.{is_calm, IsDetermined, UpTo, Determined, Unread}
 
 -- all inputs of too many bytes have one answer
 too_large : (of_set : System → Answer) (input : List ℕ) → most_input < length input → input_answer of_set input ≡ large_answer
@@ -51,70 +62,103 @@ fits : (of_set : System → Answer) (input : List ℕ) → length input ≤ most
 fits of_set input h = rw (le-leb (length input) most_input h) refl
 
 -- whatever a command makes of a set
-same_when_large : (command : Option Command) (a b : List ℕ) → reads_input command ≡ true → most_input < length a → most_input < length b → answer command a ≡ answer command b
-same_when_large None a b reads first second = absurd (true≢false (sym reads))
-same_when_large (Some (Ask query)) a b reads first second = too_large (set_answer query) a first ∙ sym (too_large (set_answer query) b second)
-same_when_large (Some (Draw number)) a b reads first second = refl
+same_when_large : (command : Option Command) (history : List Entry) (a b : List ℕ) → reads_input command ≡ true → most_input < length a → most_input < length b → answer command history a ≡ answer command history b
+same_when_large None history a b reads first second = absurd (true≢false (sym reads))
+same_when_large (Some (Ask query)) history a b reads first second = too_large (set_answer query history) a first ∙ sym (too_large (set_answer query history) b second)
+same_when_large (Some (Draw number)) history a b reads first second = refl
 
--- what is not read has no part in the answer
-same_unread : (command : Option Command) (a b : List ℕ) → reads_input command ≡ false → answer command a ≡ answer command b
-same_unread None a b unread = refl
-same_unread (Some (Ask query)) a b unread = absurd (true≢false unread)
-same_unread (Some (Draw number)) a b unread = refl
+-- what is not read has no part in the answer, and no history has
+same_unread : (command : Option Command) (history other : List Entry) (a b : List ℕ) → reads_input command ≡ false → answer command history a ≡ answer command other b
+same_unread None history other a b unread = refl
+same_unread (Some (Ask query)) history other a b unread = absurd (true≢false unread)
+same_unread (Some (Draw number)) history other a b unread = refl
+
+-- nor has one where threads have no part
+same_without_threads : (command : Option Command) (history other : List Entry) (input : List ℕ) → uses_threads command ≡ false → answer command history input ≡ answer command other input
+same_without_threads None history other input alone = refl
+same_without_threads (Some (Ask (Run ticks))) history other input alone = refl
+same_without_threads (Some (Ask Admit)) history other input alone = refl
+same_without_threads (Some (Ask (Lanes workers jobs))) history other input alone = absurd (true≢false alone)
+same_without_threads (Some (Draw number)) history other input alone = refl
+
+-- what holds of one history, and what of all
+up_to : (b : Bool) (P : List Entry → Type 0) → ((history : List Entry) × P history) → ((history other : List Entry) → b ≡ false → P history → P other) → UpTo b P
+up_to true P found same = found
+up_to false P found same = λ other. same found.0 other refl found.1
+
+some_of : (b : Bool) (P : List Entry → Type 0) → b ≡ true → UpTo b P → (history : List Entry) × P history
+some_of true P threads told = told
+some_of false P threads told = absurd (true≢false (sym threads))
+
+all_of : (b : Bool) (P : List Entry → Type 0) → b ≡ false → UpTo b P → (history : List Entry) → P history
+all_of true P alone told = absurd (true≢false alone)
+all_of false P alone told = told
 
 -- The answer to what was read is the answer to the whole input, of which all is left that was not read.
-pub record IsWhole (command : Option Command) (input given : List ℕ) (new : Option (List ℕ)) : Type 0 where
-  pub same : answer command given ≡ answer command input
+pub record IsWhole (command : Option Command) (history : List Entry) (input given : List ℕ) (new : Option (List ℕ)) : Type 0 where
+  pub same : answer command history given ≡ answer command history input
   pub rest : new ≡ Some (drop (most_input + 1) input)
 
 -- the end was reached
-read_small : (command : Option Command) (input given rest : List ℕ) → input ≡ given ++ rest → length given ≤ most_input → rest ≡ [] → IsWhole command input given (Some rest)
-read_small command input given rest e few end =
+read_small : (command : Option Command) (history : List Entry) (input given rest : List ℕ) → input ≡ given ++ rest → length given ≤ most_input → rest ≡ [] → IsWhole command history input given (Some rest)
+read_small command history input given rest e few end =
     let all : given ≡ input = sym (append-nil given) ∙ ap (λ r. given ++ r) (sym end) ∙ sym e in record {
-      same = ap (answer command) all;
+      same = ap (answer command history) all;
       rest = ap (λ (r : List ℕ). Some r) (end ∙ sym (drop_of_length-le input {i = most_input + 1} (omega (arith, few, ap length all))));
     }
 
 -- it was not
-read_large : (command : Option Command) (input given rest : List ℕ) → reads_input command ≡ true → input ≡ given ++ rest → length given ≡ most_input + 1 → IsWhole command input given (Some rest)
-read_large command input given rest reads e full = record {
-  same = same_when_large command given input reads (omega arith) (omega (arith, ap length e, length-append given rest));
+read_large : (command : Option Command) (history : List Entry) (input given rest : List ℕ) → reads_input command ≡ true → input ≡ given ++ rest → length given ≡ most_input + 1 → IsWhole command history input given (Some rest)
+read_large command history input given rest reads e full = record {
+  same = same_when_large command history given input reads (omega arith) (omega (arith, ap length e, length-append given rest));
   rest = ap (λ (r : List ℕ). Some r) (sym (ap (drop (most_input + 1)) e ∙ ap (λ n. drop n (given ++ rest)) (sym full) ∙ drop-append_seam given rest));
 }
 
-read_whole : (command : Option Command) (input given : List ℕ) (new : Option (List ℕ)) → reads_input command ≡ true → IsInput most_input (Some input) new given → IsWhole command input given new
-read_whole command input given None reads read = absurd read.taken
-read_whole command input given (Some rest) reads read =
+read_whole : (command : Option Command) (history : List Entry) (input given : List ℕ) (new : Option (List ℕ)) → reads_input command ≡ true → IsInput most_input (Some input) new given → IsWhole command history input given new
+read_whole command history input given None reads read = absurd read.taken
+read_whole command history input given (Some rest) reads read =
     elim (cases_lt most_input (length given)) [
-      | inl more ↦ read_large command input given rest reads read.taken (omega (arith, more, read.few))
-      | inr few ↦ read_small command input given rest read.taken few (read.end few)
+      | inl more ↦ read_large command history input given rest reads read.taken (omega (arith, more, read.few))
+      | inr few ↦ read_small command history input given rest read.taken few (read.end few)
     ]
 
 module _ (command : Option Command) (before after : Ends) (left : Left) where
+  -- what is told of one answer holds of an equal one
+  determined_by : (history other : List Entry) (given input : List ℕ) (result : Status) (rest : Option (List ℕ)) → answer command history given ≡ answer command other input
+      → IsDetermined command history given before after left result rest → IsDetermined command other input before after left result rest
+  determined_by history other given input result rest same told = record {
+    status = told.status ∙ ap (λ (a : Answer). a.status) same;
+    written = subst (λ (a : Answer). Appends before.taken after.taken a.output) same told.written;
+    valid = subst (λ (a : Answer). IfSome a.about IsValid) same told.valid;
+    made = subst (λ (a : Answer). IfSome a.made IsMade) same told.made;
+    leaves = subst (λ (a : Answer). Leaves a.leaves left) same told.leaves;
+    unread = told.unread;
+  }
+
+  -- what was answered, of the input that was read
+  determined_read : (result : Status) (rest : Option (List ℕ)) (told : Answered command before after left result) → after.left ≡ rest → IsDetermined command told.history told.input before after left result rest
+  determined_read result rest told unread = record {
+    status = told.answer.status;
+    written = subst (Appends before.taken after.taken) told.answer.bytes told.written;
+    valid = told.valid;
+    made = told.answer.made;
+    leaves = told.leaves;
+    unread = unread;
+  }
+
   -- an answer to what was read is the answer to the whole input
   answered_read : (result : Status) (input : List ℕ) → before.left ≡ Some input → reads_input command ≡ true → Answered command before after left result
-      → IsDetermined command input before after left result (Some (drop (most_input + 1) input))
+      → (history : List Entry) × IsDetermined command history input before after left result (Some (drop (most_input + 1) input))
   answered_read result input known reads told =
       let read : IsInput most_input (Some input) after.left told.input = rw (reads, known) at told.read in
-      let whole = read_whole command input told.input after.left reads read in record {
-        status = told.answer.status ∙ ap (λ (a : Answer). a.status) whole.same;
-        written = subst (Appends before.taken after.taken) (told.answer.bytes ∙ ap (λ (a : Answer). a.output) whole.same) told.written;
-        valid = subst (λ about. IfSome about IsValid) (ap (λ (a : Answer). a.about) whole.same) told.valid;
-        bank = subst (λ run. Leaves run left) (ap (λ (a : Answer). a.run) whole.same) told.bank;
-        unread = whole.rest;
-      }
+      let whole = read_whole command told.history input told.input after.left reads read in
+      (told.history, determined_by told.history told.history told.input input result (Some (drop (most_input + 1) input)) whole.same (determined_read result (Some (drop (most_input + 1) input)) told whole.rest))
 
   -- what is not read stays, and has no part in the answer
-  answered_unread : (result : Status) (input : List ℕ) → reads_input command ≡ false → Answered command before after left result
-      → IsDetermined command input before after left result before.left
-  answered_unread result input none told =
-      let same = same_unread command told.input input none in record {
-        status = told.answer.status ∙ ap (λ (a : Answer). a.status) same;
-        written = subst (Appends before.taken after.taken) (told.answer.bytes ∙ ap (λ (a : Answer). a.output) same) told.written;
-        valid = subst (λ about. IfSome about IsValid) (ap (λ (a : Answer). a.about) same) told.valid;
-        bank = subst (λ run. Leaves run left) (ap (λ (a : Answer). a.run) same) told.bank;
-        unread = rw none at told.read;
-      }
+  answered_unread : (result : Status) (history : List Entry) (input : List ℕ) → reads_input command ≡ false → Answered command before after left result
+      → IsDetermined command history input before after left result before.left
+  answered_unread result history input none told =
+      determined_by told.history history told.input input result before.left (same_unread command told.history history told.input input none) (determined_read result before.left told (rw none at told.read))
 
   -- a calm status is one that is answered
   calm_answered : (result : Status) → is_calm result ≡ true → Outcome command before after left result → Answered command before after left result
@@ -146,10 +190,12 @@ module _ (command : Option Command) (before after : Ends) (left : Left) where
   calm_without_faults NoMemory told memory reads writes = absurd (memory refl)
 
   pub determined : (result : Status) → Outcome command before after left result → Determined command before after left result
-  determined result told input known reads calm = answered_read result input known reads (calm_answered result calm told)
+  determined result told input known reads calm =
+      up_to (uses_threads command) _ (answered_read result input known reads (calm_answered result calm told))
+      (λ history other alone given. determined_by history other input input result (Some (drop (most_input + 1) input)) (same_without_threads command history other input alone) given)
 
   pub unread : (result : Status) → Outcome command before after left result → Unread command before after left result
-  unread result told input none calm = answered_unread result input none (calm_answered result calm told)
+  unread result told history input none calm = answered_unread result history input none (calm_answered result calm told)
 
 no_yes : (place : ℕ) → No place ≡ Yes → ⊥
 no_yes place e = cc
@@ -234,8 +280,9 @@ means laws system valid = record {
 }
 
 -- a bank that is left stands for the history of its run, which is one of the objects used one operation at a time
-legal_left : (system : System) (ticks : ℕ) (left : Left) → Leaves (Some (ran system ticks)) left → IsLegal (parts_of system) 0 (history (slots system ticks))
+legal_left : (system : System) (ticks : ℕ) (left : Left) → Leaves (LeaveBank system ticks) left → IsLegal (parts_of system) 0 (history (slots system ticks))
 legal_left system ticks Nothing is = absurd is
+legal_left system ticks (Closed closed) is = absurd is
 legal_left system ticks (Bank bank) is =
     let past = history (slots system ticks) in
     subst (λ first. IsLegal (parts_of system) first past) is.history.first (subst (λ parts. IsLegal parts bank.layout.first past) is.history.parts is.history.lawful.legal)
@@ -269,11 +316,11 @@ done_without result n is none = is ∙ ap (λ (k : ℕ). if k == 0 then Done els
 pub headline : Laws → (command : Option Command) (before after : Ends) (left : Left) (result : Status) → Outcome command before after left result → Headline command before after left result
 headline laws command before after left result told ticks input system asks known few set memory reads writes =
     let reading : reads_input command ≡ true = ap reads_input asks in
-    let given = determined command before after left result told input known reading (calm_without_faults command before after left result told memory reads writes) in
-    let same : answer command input ≡ run_answer ticks system =
-    ap (λ c. answer c input) asks ∙ fits (run_answer ticks) input few ∙ ap (file_answer (run_answer ticks)) set in
+    let given = all_of (uses_threads command) _ (ap uses_threads asks) (determined command before after left result told input known reading (calm_without_faults command before after left result told memory reads writes)) [] in
+    let same : answer command [] input ≡ run_answer ticks system =
+    ap (λ c. answer c [] input) asks ∙ fits (run_answer ticks) input few ∙ ap (file_answer (run_answer ticks)) set in
     let valid : IsValid system = subst (λ about. IfSome about IsValid) (ap (λ (a : Answer). a.about) same) given.valid in
-    let bank : Leaves (Some (ran system ticks)) left = subst (λ run. Leaves run left) (ap (λ (a : Answer). a.run) same) given.bank in
+    let bank : Leaves (LeaveBank system ticks) left = subst (λ leaves. Leaves leaves left) (ap (λ (a : Answer). a.leaves) same) given.leaves in
     let status : result ≡ (if misses_told system ticks == 0 then Done else Adverse) = given.status ∙ ap (λ (a : Answer). a.status) same in record {
       read = given.unread ∙ ap (λ (r : List ℕ). Some r) (drop_of_length-le input {i = most_input + 1} (omega (arith, few)));
       written = subst (Appends before.taken after.taken) (ap (λ (a : Answer). a.output) same) given.written;
@@ -354,9 +401,9 @@ answers_fits laws system result valid status = record {
 pub admission : Laws → (command : Option Command) (before after : Ends) (left : Left) (result : Status) → Outcome command before after left result → Admission command before after left result
 admission laws command before after left result told input system asks known few set memory reads writes =
     let reading : reads_input command ≡ true = ap reads_input asks in
-    let given = determined command before after left result told input known reading (calm_without_faults command before after left result told memory reads writes) in
-    let same : answer command input ≡ admit_answer system =
-    ap (λ c. answer c input) asks ∙ fits admit_answer input few ∙ ap (file_answer admit_answer) set in
+    let given = all_of (uses_threads command) _ (ap uses_threads asks) (determined command before after left result told input known reading (calm_without_faults command before after left result told memory reads writes)) [] in
+    let same : answer command [] input ≡ admit_answer system =
+    ap (λ c. answer c [] input) asks ∙ fits admit_answer input few ∙ ap (file_answer admit_answer) set in
     let valid : IsValid system = subst (λ about. IfSome about IsValid) (ap (λ (a : Answer). a.about) same) given.valid in
     let status : result ≡ admit_status_by system.policy system = given.status ∙ ap (λ (a : Answer). a.status) same in record {
       read = given.unread ∙ ap (λ (r : List ℕ). Some r) (drop_of_length-le input {i = most_input + 1} (omega (arith, few)));
@@ -365,15 +412,15 @@ admission laws command before after left result told input system asks known few
       served = λ fixed. answers_served laws system result (status ∙ fixed_status_is system.policy system fixed);
       fits = λ earliest. answers_fits laws system result valid (status ∙ ap (λ (p : Policy). admit_status_by p system) earliest);
       test = means laws system valid;
-      nothing = subst (λ run. Leaves run left) (ap (λ (a : Answer). a.run) same) given.bank;
+      nothing = subst (λ leaves. Leaves leaves left) (ap (λ (a : Answer). a.leaves) same) given.leaves;
     }
 
 pub drawing : Laws → (command : Option Command) (before after : Ends) (left : Left) (result : Status) → Outcome command before after left result → Drawing command before after left result
 drawing laws command before after left result told number asks memory reads writes =
     let none : reads_input command ≡ false = ap reads_input asks in
-    let given = unread command before after left result told [] none (calm_without_faults command before after left result told memory reads writes) in
-    let same : answer command [] ≡ draw_answer drawn_ticks number = ap (λ c. answer c []) asks in
-    let bank : Leaves (Some (ran (generated number) drawn_ticks)) left = subst (λ run. Leaves run left) (ap (λ (a : Answer). a.run) same) given.bank in
+    let given = unread command before after left result told [] [] none (calm_without_faults command before after left result told memory reads writes) in
+    let same : answer command [] [] ≡ draw_answer drawn_ticks number = ap (λ c. answer c [] []) asks in
+    let bank : Leaves (LeaveBank (generated number) drawn_ticks) left = subst (λ leaves. Leaves leaves left) (ap (λ (a : Answer). a.leaves) same) given.leaves in
     let valid : IsValid (generated number) = subst (λ about. IfSome about IsValid) (ap (λ (a : Answer). a.about) same) given.valid in record {
       unread = given.unread;
       written = subst (Appends before.taken after.taken) (ap (λ (a : Answer). a.output) same) given.written;
@@ -385,4 +432,35 @@ drawing laws command before after left result told number asks memory reads writ
       charge = charges laws (generated number) drawn_ticks valid;
       ranks = charges_ranks laws (generated number) drawn_ticks valid;
       on_time = λ line. none_missed laws (generated number) drawn_ticks valid line (laws.drawn number);
+    }
+
+-- what is known of the lines of entries
+abbrev CallsLaw : Type 0
+CallsLaw = (system : System) (jobs place : ℕ) (entry : Entry) → slice_get (script_of system jobs entry.caller) place ≡ Some (asked_of entry) → entry.index ≡ place + 1
+    → item_of system (entry_job system entry) (entry_item system entry) ≡ Some (Op entry.object entry.call)
+
+tells_calls : CallsLaw → (system : System) (workers jobs : ℕ) (history : List Entry) → IsMade (made_of system workers jobs history) → TellsCalls system history
+tells_calls law system workers jobs history made task place entry known found =
+    let list = made.scripts task known in
+    let mine = list.own place entry found in
+    law system jobs place entry
+    (ap (λ (k : ℕ). slice_get (script_of system jobs k) place) mine.0 ∙ ap (λ (asks : List Asked). slice_get asks place) (sym list.calls) ∙ slice_get-map asked_of (entries_by task history) place ∙ ap (λ (o : Option Entry). option_map asked_of o) found)
+    mine.1
+
+pub sharing : CallsLaw → (command : Option Command) (before after : Ends) (left : Left) (result : Status) → Outcome command before after left result → Sharing command before after left result
+sharing law command before after left result told workers jobs input system asks known few set memory reads writes =
+    let reading : reads_input command ≡ true = ap reads_input asks in
+    let found = some_of (uses_threads command) _ (ap uses_threads asks) (determined command before after left result told input known reading (calm_without_faults command before after left result told memory reads writes)) in
+    let given = found.1 in
+    let same : answer command found.0 input ≡ lanes_answer workers jobs found.0 system =
+    ap (λ c. answer c found.0 input) asks ∙ fits (lanes_answer workers jobs found.0) input few ∙ ap (file_answer (lanes_answer workers jobs found.0)) set in
+    let made : IsMade (made_of system workers jobs found.0) = subst (λ made. IfSome made IsMade) (ap (λ (a : Answer). a.made) same) given.made in record {
+      history = found.0;
+      made = made;
+      calls = tells_calls law system workers jobs found.0 made;
+      read = given.unread ∙ ap (λ (r : List ℕ). Some r) (drop_of_length-le input {i = most_input + 1} (omega (arith, few)));
+      written = subst (Appends before.taken after.taken) (ap (λ (a : Answer). a.output) same) given.written;
+      status = given.status ∙ ap (λ (a : Answer). a.status) same;
+      table = subst (λ leaves. Leaves leaves left) (ap (λ (a : Answer). a.leaves) same) given.leaves;
+      valid = subst (λ about. IfSome about IsValid) (ap (λ (a : Answer). a.about) same) given.valid;
     }

@@ -33,6 +33,10 @@ puts_first_cut a b f g x xs ys all first e = record {
   cause = record { later = first.cause.later; kept = tt; failed = first.cause.failed };
 }
 
+-- what was to be taken is another text for the same bytes
+pub puts_same : {T E : Type 0} (a b : Option (List ℕ)) (f g : ℕ) (r : Result T E) (xs all : List ℕ) → all ≡ xs → Puts {T = T} {E = E} a b f g r xs → Puts {T = T} {E = E} a b f g r all
+puts_same {T} {E} a b f g r xs all e puts = subst (Puts {T = T} {E = E} a b f g r) (sym e) puts
+
 -- nothing was to be taken
 pub puts_nothing : {T E : Type 0} (a : Option (List ℕ)) (f : ℕ) (x : T) (all : List ℕ) → all ≡ [] → Puts {T = T} {E = E} a a f f (Ok x) all
 puts_nothing a f x all none = record {

@@ -1,12 +1,14 @@
 -- Which answer a call gives.
 use Rattle.std.specs.Prelude.{ℕ, ◌≡◌, ◌+◌, Bool, true, false, List, drop, Option, Some, IfSome}
 use Rattle.std.specs.Io.KnownBytes.{Appends}
+use Rattle.rx_seq.specs.declared.entries.Entry.{Entry}
 use Rattle.rx_set.specs.Valid.{IsValid}
 use Rattle.rx_top.specs.declared.words.Command.{Command}
 use Rattle.rx_top.specs.declared.left.Left.{Left}
 use Rattle.rx_top.specs.declared.status.Status.{Status}
 use Rattle.rx_top.specs.declared.status.Status.TheVariants.{Done, Adverse, Words, ReadFault, TooLarge, NotToml, BadSet, WriteFault, NoMemory, Wide, Long}
-use Rattle.rx_top.specs.Words.{reads_input}
+use Rattle.rx_top.specs.Words.{reads_input, uses_threads}
+use Rattle.rx_lanes.specs.Histories.{IsMade}
 use Rattle.rx_top.specs.Leaves.{Leaves}
 use Rattle.rx_top.specs.Outcome.{Ends, answer, most_input}
 
@@ -24,22 +26,28 @@ is_calm BadSet = true
 is_calm Wide = true
 is_calm Long = true
 
--- the status, the bytes and the bank are those of the words and the input, the set that they are about is valid, and this is the rest of the input
-pub record IsDetermined (command : Option Command) (input : List ℕ) (before after : Ends) (left : Left) (result : Status) (rest : Option (List ℕ)) : Type 0 where
-  pub status : result ≡ (answer command input).status
-  pub written : Appends before.taken after.taken (answer command input).output
-  pub valid : IfSome (answer command input).about IsValid
-  pub bank : Leaves (answer command input).run left
+-- the status, the bytes and what is left are those of the words, the input and this history, the set that they are about is valid, lanes can make the history if they had to, and this is the rest of the input
+pub record IsDetermined (command : Option Command) (history : List Entry) (input : List ℕ) (before after : Ends) (left : Left) (result : Status) (rest : Option (List ℕ)) : Type 0 where
+  pub status : result ≡ (answer command history input).status
+  pub written : Appends before.taken after.taken (answer command history input).output
+  pub valid : IfSome (answer command history input).about IsValid
+  pub made : IfSome (answer command history input).made IsMade
+  pub leaves : Leaves (answer command history input).leaves left
   pub unread : after.left ≡ rest
 
--- A command that reads its input: the status, the bytes, the bank and the rest of the input are those of the words and the input.
+-- what holds of some history where threads have a part in the answer, and of every one where they have none
+abbrev pub UpTo : Bool → (List Entry → Type 0) → Type 0
+UpTo true P = (history : List Entry) × P history
+UpTo false P = (history : List Entry) → P history
+
+-- A command that reads its input: the status, the bytes, what is left and the rest of the input are those of the words and the input, and for lanes those of a history that they can make.
 abbrev pub Determined : Option Command → Ends → Ends → Left → Status → Type 0
 Determined command before after left result =
     (input : List ℕ) → before.left ≡ Some input → reads_input command ≡ true → is_calm result ≡ true
-    → IsDetermined command input before after left result (Some (drop (most_input + 1) input))
+    → UpTo (uses_threads command) (λ history. IsDetermined command history input before after left result (Some (drop (most_input + 1) input)))
 
--- Words of no shape, and a command that reads nothing: the same, whatever the input, and the source keeps it.
+-- Words of no shape, and a command that reads nothing: the same, whatever the input and the history, and the source keeps it.
 abbrev pub Unread : Option Command → Ends → Ends → Left → Status → Type 0
 Unread command before after left result =
-    (input : List ℕ) → reads_input command ≡ false → is_calm result ≡ true
-    → IsDetermined command input before after left result before.left
+    (history : List Entry) (input : List ℕ) → reads_input command ≡ false → is_calm result ≡ true
+    → IsDetermined command history input before after left result before.left

@@ -1,5 +1,6 @@
--- The bank that a call hands out.
-use Rattle.std.specs.Prelude.{ℕ, ◌≡◌, ◌+◌, Option, Some, None, IfSome}
+-- The words that a call hands out.
+use Rattle.std.specs.Prelude.{ℕ, ◌≡◌, ◌+◌, List, Option, IfSome}
+use Rattle.rx_seq.specs.declared.entries.Entry.{Entry}
 use Rattle.rx_set.specs.System.{System}
 use Rattle.rx_port.specs.Plain.{Whole}
 use Rattle.rx_tick.specs.Banks.{IsBankOf}
@@ -7,16 +8,9 @@ use Rattle.rx_tick.specs.Schedule.{slots}
 use Rattle.rx_tick.specs.Sums.{AreSums}
 use Rattle.rx_top.specs.Report.{run_totals}
 use Rattle.rx_port.specs.declared.views.Counts.{Counts}
+use Rattle.rx_top.specs.LaneReport.{IsTableLeft}
 use Rattle.rx_top.specs.declared.left.Left.{Left}
-use Rattle.rx_top.specs.declared.left.Left.TheVariants.{Nothing, Bank}
-
--- the run of a system for so many slots
-pub record Ran : Type 0 where
-  pub system : System
-  pub ticks : ℕ
-
-abbrev pub ran : System → ℕ → Ran
-ran system ticks = record { system = system; ticks = ticks }
+use Rattle.rx_top.specs.declared.left.Left.TheVariants.{Nothing, Bank, Closed}
 
 -- one exchange for each reply and each retry that is told
 abbrev pub AreTold : System → ℕ → Option Counts → Type 0
@@ -28,8 +22,18 @@ pub record IsBankLeft (system : System) (ticks : ℕ) (bank : Whole) : Type 0 wh
   pub sums : AreSums system (slots system ticks) bank.core.counts
   pub told : AreTold system ticks bank.core.counts
 
--- What is handed out: the bank of the run if there was one, and nothing otherwise.
-abbrev pub Leaves : Option Ran → Left → Type 0
-Leaves None left = left ≡ Nothing
-Leaves (Some run) Nothing = ⊥
-Leaves (Some run) (Bank bank) = IsBankLeft run.system run.ticks bank
+-- what is to be handed out: nothing, the bank of a run of so many slots, or the table of so many lanes that made this history
+pub data ToLeave : Type 0 where
+  LeaveNothing : ToLeave
+  LeaveBank : System → ℕ → ToLeave
+  LeaveTable : System → ℕ → List Entry → ToLeave
+
+-- What is handed out is that.
+abbrev pub Leaves : ToLeave → Left → Type 0
+Leaves LeaveNothing left = left ≡ Nothing
+Leaves (LeaveBank system ticks) Nothing = ⊥
+Leaves (LeaveBank system ticks) (Bank bank) = IsBankLeft system ticks bank
+Leaves (LeaveBank system ticks) (Closed closed) = ⊥
+Leaves (LeaveTable system workers history) Nothing = ⊥
+Leaves (LeaveTable system workers history) (Bank bank) = ⊥
+Leaves (LeaveTable system workers history) (Closed closed) = IsTableLeft system workers history closed

@@ -3,6 +3,7 @@ pub mod Tests
 pub mod Report
 pub mod Drawn
 pub mod Runs
+pub mod LaneReport
 pub mod Leaves
 pub mod Outcome
 pub mod Determined

@@ -25,9 +25,10 @@ use Rattle.rx_top.specs.declared.status.Status.TheVariants.{Done, Adverse, Words
 use Rattle.rx_top.specs.declared.words.Command.{Command}
 use Rattle.rx_top.specs.declared.words.Command.TheVariants.{Ask, Draw}
 use Rattle.rx_top.specs.declared.words.Query.{Query}
-use Rattle.rx_top.specs.declared.words.Query.TheVariants.{Run, Admit}
+use Rattle.rx_top.specs.declared.words.Query.TheVariants.{Run, Admit, Lanes}
 use Rattle.rx_top.specs.Words.{reads_input}
 use Rattle.rx_ledger.specs.Intervals.{any_job, retries, preemptions, releases}
+use Rattle.rx_seq.specs.declared.entries.Entry.{Entry}
 use Rattle.rx_seq.specs.Legal.{IsLegal}
 use Rattle.rx_tick.specs.Charges.{of_rank_to, of_rank_below}
 use Rattle.rx_tick.specs.Laws.{FollowsBodies}
@@ -35,7 +36,9 @@ use Rattle.rx_tick.specs.Schedule.{history, slots}
 use Rattle.rx_top.specs.Tests.{admit_report, test_line}
 use Rattle.rx_top.specs.Drawn.{drawn_report, drawn_ticks}
 use Rattle.rx_top.specs.Report.{report, told_of, misses_told}
-use Rattle.rx_top.specs.Leaves.{Ran, Leaves, ran}
+use Rattle.rx_lanes.specs.Histories.{IsMade, Made, made_of}
+use Rattle.rx_top.specs.LaneReport.{TellsCalls, lanes_report}
+use Rattle.rx_top.specs.Leaves.{ToLeave, LeaveNothing, LeaveBank, LeaveTable, Leaves}
 
 -- the exit code of a status
 abbrev pub code_of : Status → ℕ
@@ -61,20 +64,25 @@ pub record Ends : Type 0 where
 abbrev pub ends : Option (List ℕ) → ℕ → Option (List ℕ) → ℕ → Ends
 ends left read_faults taken write_faults = record { left = left; read_faults = read_faults; taken = taken; write_faults = write_faults }
 
--- a status, all that is written with it, the set that it is about, and the run whose bank is left
+-- a status, all that is written with it, the set that it is about, what lanes made of it, and what is left
 pub record Answer : Type 0 where
   pub status : Status
   pub output : List ℕ
   pub about : Option System
-  pub run : Option Ran
+  pub made : Option Made
+  pub leaves : ToLeave
+
+-- an answer that says no more than its status and its output
+abbrev pub plain_answer : Status → List ℕ → Answer
+plain_answer status output = record { status = status; output = output; about = None; made = None; leaves = LeaveNothing }
 
 -- the answer to words of no shape
 abbrev pub words_answer : Answer
-words_answer = record { status = Words; output = codes "words\n"; about = None; run = None }
+words_answer = plain_answer Words (codes "words\n")
 
 -- the answer to an input of too many bytes
 abbrev pub large_answer : Answer
-large_answer = record { status = TooLarge; output = codes "too large\n"; about = None; run = None }
+large_answer = plain_answer TooLarge (codes "too large\n")
 
 -- no TOML has a status of its own, and all other faults of a file have one
 abbrev pub fault_status : FileFault → Status
@@ -83,11 +91,11 @@ fault_status _ = BadSet
 
 -- the answer to an input that is no set: its first fault is told
 abbrev pub fault_answer : FileFault → Answer
-fault_answer first = record { status = fault_status first; output = fault_line first; about = None; run = None }
+fault_answer first = plain_answer (fault_status first) (fault_line first)
 
 -- the answer of a run of so many slots
 abbrev pub run_answer : ℕ → System → Answer
-run_answer ticks system = record { status = if misses_told system ticks == 0 then Done else Adverse; output = report system ticks; about = Some system; run = Some (ran system ticks) }
+run_answer ticks system = record { status = if misses_told system ticks == 0 then Done else Adverse; output = report system ticks; about = Some system; made = None; leaves = LeaveBank system ticks }
 
 -- the status of the verdict of each test
 abbrev pub fixed_status : Verdict → Status
@@ -107,16 +115,21 @@ admit_status_by Edf system = edf_status (edf_verdict_of system)
 
 -- the answer to an admission: the report of the test of the set's policy, whose verdict is the status
 abbrev pub admit_answer : System → Answer
-admit_answer system = record { status = admit_status_by system.policy system; output = admit_report system; about = Some system; run = None }
+admit_answer system = record { status = admit_status_by system.policy system; output = admit_report system; about = Some system; made = None; leaves = LeaveNothing }
 
--- the answer of a query to a set
-abbrev pub set_answer : Query → System → Answer
-set_answer (Run ticks) system = run_answer ticks system
-set_answer Admit system = admit_answer system
+-- the answer of so many lanes that made this history
+abbrev pub lanes_answer : ℕ → ℕ → List Entry → System → Answer
+lanes_answer workers jobs history system = record { status = Done; output = lanes_report system workers jobs history; about = Some system; made = Some (made_of system workers jobs history); leaves = LeaveTable system workers history }
+
+-- The answer of a query to a set. Only that of lanes looks at the history, which is up to the threads
+abbrev pub set_answer : Query → List Entry → System → Answer
+set_answer (Run ticks) history system = run_answer ticks system
+set_answer Admit history system = admit_answer system
+set_answer (Lanes workers jobs) history system = lanes_answer workers jobs history system
 
 -- the answer to the number of a drawn set that is run for so many slots
 abbrev pub draw_answer : ℕ → ℕ → Answer
-draw_answer ticks number = record { status = Done; output = drawn_report (generated number) ticks; about = Some (generated number); run = Some (ran (generated number) ticks) }
+draw_answer ticks number = record { status = Done; output = drawn_report (generated number) ticks; about = Some (generated number); made = None; leaves = LeaveBank (generated number) ticks }
 
 -- the answer to what a task file gives, from the answer to its set
 abbrev pub file_answer : (System → Answer) → Result System FileFault → Answer
@@ -131,30 +144,32 @@ most_input = 1048576
 abbrev pub input_answer : (System → Answer) → List ℕ → Answer
 input_answer of_set input = if nat_le (length input) most_input then file_answer of_set (set_of input) else large_answer
 
--- The answer to the words and the input.
-abbrev pub answer : Option Command → List ℕ → Answer
-answer None input = words_answer
-answer (Some (Ask query)) input = input_answer (set_answer query) input
-answer (Some (Draw number)) input = draw_answer drawn_ticks number
+-- The answer to the words and the input, and for lanes to the history that they made.
+abbrev pub answer : Option Command → List Entry → List ℕ → Answer
+answer None history input = words_answer
+answer (Some (Ask query)) history input = input_answer (set_answer query history) input
+answer (Some (Draw number)) history input = draw_answer drawn_ticks number
 
--- The status and the output are an answer to the command and the input, of which there is exactly one.
-pub record IsAnswer (command : Option Command) (input : List ℕ) (result : Status) (output : List ℕ) : Type 0 where
-  pub status : result ≡ (answer command input).status
-  pub bytes : output ≡ (answer command input).output
+-- The status and the output are an answer to the command and the input. Of lanes there is one for each history that they can make, and of any other command exactly one.
+pub record IsAnswer (command : Option Command) (history : List Entry) (input : List ℕ) (result : Status) (output : List ℕ) : Type 0 where
+  pub status : result ≡ (answer command history input).status
+  pub bytes : output ≡ (answer command history input).output
+  pub made : IfSome (answer command history input).made IsMade
 
 -- What was read: all to the end, or one byte more than an input may have. A command that reads nothing leaves the source as it was
 abbrev pub Reads : Bool → Ends → Ends → List ℕ → Type 0
 Reads true before after input = IsInput most_input before.left after.left input
 Reads false before after input = after.left ≡ before.left
 
--- Neither count rose, the input was read, an answer to it was written, all of it and nothing else, the set that it is about is valid, and the bank of its run is left.
+-- Neither count rose, the input was read, an answer to it was written, all of it and nothing else, the set that it is about is valid, and its bank or its table is left.
 pub record Answered (command : Option Command) (before after : Ends) (left : Left) (result : Status) : Type 0 where
   pub input : List ℕ
+  pub history : List Entry
   pub output : List ℕ
   pub read : Reads (reads_input command) before after input
-  pub valid : IfSome (answer command input).about IsValid
-  pub bank : Leaves (answer command input).run left
-  pub answer : IsAnswer command input result output
+  pub valid : IfSome (answer command history input).about IsValid
+  pub leaves : Leaves (answer command history input).leaves left
+  pub answer : IsAnswer command history input result output
   pub written : Appends before.taken after.taken output
   pub no_read_fault : after.read_faults ≡ before.read_faults
   pub no_write_fault : after.write_faults ≡ before.write_faults
@@ -170,10 +185,11 @@ pub record ReadFailed (command : Option Command) (before after : Ends) (left : L
 -- The sink failed. The input was read, a front of an answer to it was written, and nothing is left.
 pub record WriteFailed (command : Option Command) (before after : Ends) (left : Left) : Type 0 where
   pub input : List ℕ
+  pub history : List Entry
   pub status : Status
   pub output : List ℕ
   pub read : Reads (reads_input command) before after input
-  pub answer : IsAnswer command input status output
+  pub answer : IsAnswer command history input status output
   pub written : Began before.taken after.taken output
   pub no_read_fault : after.read_faults ≡ before.read_faults
   pub write_fault : before.write_faults < after.write_faults
@@ -202,16 +218,18 @@ Outcome command before after left BadSet = Answered command before after left Ba
 Outcome command before after left Wide = Answered command before after left Wide
 Outcome command before after left Long = Answered command before after left Long
 
--- What a command does to the sink alone once its input is read, and what it leaves: it writes its answer and leaves the bank of its run,
+-- What a command does to the sink alone once its input is read, and what it leaves: it writes its answer and leaves its bank or its table,
 pub record Told (answer : Answer) (old new : Option (List ℕ)) (before after : ℕ) (left : Left) (result : Status) : Type 0 where
   pub status : result ≡ answer.status
   pub valid : IfSome answer.about IsValid
-  pub bank : Leaves answer.run left
+  pub made : IfSome answer.made IsMade
+  pub leaves : Leaves answer.leaves left
   pub written : Appends old new answer.output
   pub no_fault : after ≡ before
 
 -- or a front of it, since the sink failed, and leaves nothing,
 pub record Cut (answer : Answer) (old new : Option (List ℕ)) (before after : ℕ) (left : Left) : Type 0 where
+  pub made : IfSome answer.made IsMade
   pub written : Began old new answer.output
   pub fault : before < after
   pub nothing : left ≡ Nothing
@@ -234,6 +252,10 @@ Tells answer old new before after left NotToml = Told answer old new before afte
 Tells answer old new before after left BadSet = Told answer old new before after left BadSet
 Tells answer old new before after left Wide = Told answer old new before after left Wide
 Tells answer old new before after left Long = Told answer old new before after left Long
+
+-- the same of one of the answers to a history
+abbrev pub TellsOne : (List Entry → Answer) → Option (List ℕ) → Option (List ℕ) → ℕ → ℕ → Left → Status → Type 0
+TellsOne answers old new before after left result = (history : List Entry) × Tells (answers history) old new before after left result
 
 -- the first line is `test yes`
 abbrev pub SaysYes : System → Type 0
@@ -266,7 +288,7 @@ pub record Reported (system : System) (ticks : ℕ) (before after : Ends) (left 
   pub written : Appends before.taken after.taken (report system ticks)
   pub test : MeansTest system
   pub status : result ≡ (if misses_told system ticks == 0 then Done else Adverse)
-  pub bank : Leaves (Some (ran system ticks)) left
+  pub bank : Leaves (LeaveBank system ticks) left
   pub valid : IsValid system
   pub legal : IsLegal (parts_of system) 0 (history (slots system ticks))
   pub bodies : MakesBodies system ticks
@@ -318,7 +340,7 @@ pub record DrawnAndTold (number : ℕ) (before after : Ends) (left : Left) (resu
   pub written : Appends before.taken after.taken (drawn_report (generated number) drawn_ticks)
   pub status : result ≡ Done
   pub test : MeansTest (generated number)
-  pub bank : Leaves (Some (ran (generated number) drawn_ticks)) left
+  pub bank : Leaves (LeaveBank (generated number) drawn_ticks) left
   pub legal : IsLegal (parts_of (generated number)) 0 (history (slots (generated number) drawn_ticks))
   pub bodies : MakesBodies (generated number) drawn_ticks
   pub charge : Charges (generated number) drawn_ticks
@@ -331,3 +353,22 @@ Drawing command before after left result =
     (number : ℕ) → command ≡ Some (Draw number)
     → result ≢ NoMemory → after.read_faults ≡ before.read_faults → after.write_faults ≡ before.write_faults
     → DrawnAndTold number before after left result
+
+-- All of the input was read. The bytes taken are the report of this history and no others, which so many lanes can make of the operations of the set for so many jobs of each task; each line tells its entry's own call. In the table that is left each lane's seat has the entries of its tasks.
+pub record SharedAndTold (system : System) (workers jobs : ℕ) (before after : Ends) (left : Left) (result : Status) : Type 0 where
+  pub history : List Entry
+  pub made : IsMade (made_of system workers jobs history)
+  pub calls : TellsCalls system history
+  pub read : after.left ≡ Some []
+  pub written : Appends before.taken after.taken (lanes_report system workers jobs history)
+  pub status : result ≡ Done
+  pub table : Leaves (LeaveTable system workers history) left
+  pub valid : IsValid system
+
+-- `lanes` on an input that is a set, given memory and no fault, writes one such history, in whatever order the threads came.
+abbrev pub Sharing : Option Command → Ends → Ends → Left → Status → Type 0
+Sharing command before after left result =
+    (workers jobs : ℕ) (input : List ℕ) (system : System)
+    → command ≡ Some (Ask (Lanes workers jobs)) → before.left ≡ Some input → length input ≤ most_input → set_of input ≡ Ok system
+    → result ≢ NoMemory → after.read_faults ≡ before.read_faults → after.write_faults ≡ before.write_faults
+    → SharedAndTold system workers jobs before after left result

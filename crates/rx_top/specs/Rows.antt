@@ -1,6 +1,6 @@
 -- Worked words.
 use Rattle.std.specs.Prelude.{◌≡◌, refl, [], ◌∷◌, codes, Some, None}
-use Rattle.rx_top.specs.declared.words.Query.TheVariants.{Run, Admit}
+use Rattle.rx_top.specs.declared.words.Query.TheVariants.{Run, Admit, Lanes}
 use Rattle.rx_top.specs.declared.words.Command.TheVariants.{Ask, Draw}
 use Rattle.rx_top.specs.Words.{command_of}
 
@@ -57,3 +57,27 @@ words_draw_more = refl
 
 pub words_draw_alone : command_of (codes "gen" ∷ []) ≡ None
 words_draw_alone = refl
+
+pub words_lanes : command_of (codes "lanes" ∷ codes "4" ∷ codes "50" ∷ []) ≡ Some (Ask (Lanes 4 50))
+words_lanes = refl
+
+pub words_lanes_most : command_of (codes "lanes" ∷ codes "0016" ∷ codes "200" ∷ []) ≡ Some (Ask (Lanes 16 200))
+words_lanes_most = refl
+
+pub words_no_lane : command_of (codes "lanes" ∷ codes "0" ∷ codes "5" ∷ []) ≡ None
+words_no_lane = refl
+
+pub words_lanes_more : command_of (codes "lanes" ∷ codes "17" ∷ codes "1" ∷ []) ≡ None
+words_lanes_more = refl
+
+pub words_no_job : command_of (codes "lanes" ∷ codes "1" ∷ codes "0" ∷ []) ≡ None
+words_no_job = refl
+
+pub words_jobs_more : command_of (codes "lanes" ∷ codes "1" ∷ codes "201" ∷ []) ≡ None
+words_jobs_more = refl
+
+pub words_lanes_without_jobs : command_of (codes "lanes" ∷ codes "1" ∷ []) ≡ None
+words_lanes_without_jobs = refl
+
+pub words_lanes_and_more : command_of (codes "lanes" ∷ codes "1" ∷ codes "1" ∷ codes "1" ∷ []) ≡ None
+words_lanes_and_more = refl

@@ -8,6 +8,9 @@ mod admits;
 #[cfg(test)]
 mod charge_tests;
 mod draws;
+#[cfg(test)]
+mod lane_tests;
+mod lanes;
 mod left;
 mod runs;
 mod status;

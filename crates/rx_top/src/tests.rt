@@ -2,6 +2,7 @@ use super::*;
 use crate::tops::new_executive;
 use rx_fixed::{Verdict, test};
 use rx_io::{InSource, MemorySink, MemorySource, OutSink};
+use rx_lanes::NoGate;
 use rx_ledger::Event;
 use rx_port::Counts;
 use rx_seq::State;
@@ -11,6 +12,7 @@ use std::alloc::{AllocError, Global};
 use std::io;
 use std::io::{ErrorKind, Read, Write};
 use std::test::Fail;
+use std::thread::Threads;
 
 const FILE: &str =
     "task = [{name=\"a\", period=4, offset=1, body=[\"work 1\"]}, {name=\"b\", period=8, body=[\"work 3\"]}]\n";
@@ -174,6 +176,7 @@ fn split(alloc: Global, text: &str) -> Result<Vec<String>, AllocError> {
 // of the source and of the sink with these numbers fail, and none where the number is 0. Answers the status, and what was
 // taken.
 fn call_in_steps(
+    rt: &(impl Threads + Sync),
     alloc: Global,
     text: &str,
     input: &str,
@@ -190,7 +193,15 @@ fn call_in_steps(
     let made = MemorySink::new(alloc, 4096, step, [write_fails].to_vec(alloc)?);
     let mut sink = made.map_err(|_| "no memory")?;
     let mut left = Left::Nothing;
-    let status = top(alloc, words.as_slice(), &mut source, &mut sink, &mut left);
+    let status = top(
+        rt,
+        alloc,
+        words.as_slice(),
+        &mut source,
+        &mut sink,
+        &NoGate,
+        &mut left,
+    );
     Ok((status, sink.taken().to_vec(alloc)?))
 }
 
@@ -305,6 +316,10 @@ fn answers_words_and_input(rt: HostRuntime) -> Result<(), Fail> {
             "test yes\n",
         ),
         ("admit 3", SHARED, 4096, 1, 0, Status::Words, "words\n"),
+        ("lanes 0 5", SHARED, 4096, 1, 0, Status::Words, "words\n"),
+        ("lanes 17 1", SHARED, 4096, 1, 0, Status::Words, "words\n"),
+        ("lanes 1 201", SHARED, 4096, 1, 0, Status::Words, "words\n"),
+        ("lanes 1", SHARED, 4096, 1, 0, Status::Words, "words\n"),
         ("admits", SHARED, 4096, 1, 0, Status::Words, "words\n"),
         ("run 10", FILE, 4096, 1, 0, Status::ReadFault, ""),
         ("run 10", FILE, 4096, 0, 1, Status::WriteFault, ""),
@@ -320,7 +335,15 @@ fn answers_words_and_input(rt: HostRuntime) -> Result<(), Fail> {
         ("run 10", "", 1, 0, 3, Status::WriteFault, "se"),
         ("runs 10", FILE, 4096, 1, 0, Status::Words, "words\n"),
     ] {
-        let (status, bytes) = call_in_steps(alloc, words, input, step, read_fails, write_fails)?;
+        let (status, bytes) = call_in_steps(
+            &rt,
+            alloc,
+            words,
+            input,
+            step,
+            read_fails,
+            write_fails,
+        )?;
         assert_eq!(rt; status, want);
         assert_eq!(rt; bytes.as_slice(), taken.as_bytes());
     }
@@ -382,7 +405,15 @@ fn tells_the_first_fault(rt: HostRuntime) -> Result<(), Fail> {
         let mut sink = made.map_err(|_| "no memory")?;
         let mut left = Left::Nothing;
         assert_eq!(rt;
-            top(alloc, words.as_slice(), &mut source, &mut sink, &mut left),
+            top(
+                &rt,
+                alloc,
+                words.as_slice(),
+                &mut source,
+                &mut sink,
+                &NoGate,
+                &mut left
+            ),
             want
         );
         assert_eq!(rt; sink.taken(), line.as_bytes());
@@ -413,7 +444,15 @@ fn takes_an_input_of_the_most_bytes(rt: HostRuntime) -> Result<(), Fail> {
         let mut sink = made.map_err(|_| "no memory")?;
         let mut left = Left::Nothing;
         assert_eq!(rt;
-            top(alloc, words.as_slice(), &mut source, &mut sink, &mut left),
+            top(
+                &rt,
+                alloc,
+                words.as_slice(),
+                &mut source,
+                &mut sink,
+                &NoGate,
+                &mut left
+            ),
             want
         );
         assert_eq!(rt; sink.taken(), taken.as_bytes());
@@ -444,7 +483,15 @@ fn leaves_the_rest_of_a_large_input(rt: HostRuntime) -> Result<(), Fail> {
     let mut sink = made.map_err(|_| "no memory")?;
     let mut left = Left::Nothing;
     assert_eq!(rt;
-        top(alloc, words.as_slice(), &mut source, &mut sink, &mut left),
+        top(
+            &rt,
+            alloc,
+            words.as_slice(),
+            &mut source,
+            &mut sink,
+            &NoGate,
+            &mut left
+        ),
         Status::TooLarge
     );
     assert_eq!(rt; sink.taken(), b"too large\n".as_slice());
@@ -506,7 +553,15 @@ fn words_of_no_shape_read_nothing(rt: HostRuntime) -> Result<(), Fail> {
     let mut sink = made.map_err(|_| "no memory")?;
     let mut left = Left::Nothing;
     assert_eq!(rt;
-        top(alloc, words.as_slice(), &mut source, &mut sink, &mut left),
+        top(
+            &rt,
+            alloc,
+            words.as_slice(),
+            &mut source,
+            &mut sink,
+            &NoGate,
+            &mut left
+        ),
         Status::Words
     );
     assert_eq!(rt; sink.taken(), b"words\n".as_slice());
@@ -524,7 +579,15 @@ fn nothing_is_called_after_a_failure(rt: HostRuntime) -> Result<(), Fail> {
         let mut sink = OutSink::new(Full { calls: 0 });
         let mut left = Left::Nothing;
         assert_eq!(rt;
-            top(alloc, words.as_slice(), &mut source, &mut sink, &mut left),
+            top(
+                &rt,
+                alloc,
+                words.as_slice(),
+                &mut source,
+                &mut sink,
+                &NoGate,
+                &mut left
+            ),
             status
         );
         assert_eq!(rt; source.into_inner().calls, 2);
@@ -536,6 +599,7 @@ fn nothing_is_called_after_a_failure(rt: HostRuntime) -> Result<(), Fail> {
 // Calls `top` on the words and the input. The calls of the source and of the sink with these numbers fail, and none
 // where the number is 0.
 fn call(
+    rt: &(impl Threads + Sync),
     alloc: Global,
     text: &str,
     input: &str,
@@ -548,7 +612,15 @@ fn call(
     let mut source = MemorySource::new(bytes, 4096, [read_fails].to_vec(alloc)?);
     let made = MemorySink::new(alloc, 4096, 4096, [write_fails].to_vec(alloc)?);
     let mut sink = made.map_err(|_| "no memory")?;
-    Ok(top(alloc, words.as_slice(), &mut source, &mut sink, left))
+    Ok(top(
+        rt,
+        alloc,
+        words.as_slice(),
+        &mut source,
+        &mut sink,
+        &NoGate,
+        left,
+    ))
 }
 
 // The counts of the bank that is left, and the tag and the state of its first object.
@@ -563,6 +635,7 @@ fn first_object(left: &Left) -> Option<(Counts, u64, State)> {
             bank.state(0, &mut state);
             Some((bank.counts(), bank.tag(0), state))
         }
+        Left::Closed { .. } => None,
     }
 }
 
@@ -578,7 +651,10 @@ fn leaves_the_bank_of_its_run(rt: HostRuntime) -> Result<(), Fail> {
         ("run 8", CALLS, 4, 4, 4, 0),
     ] {
         let mut left = Left::Nothing;
-        assert_eq!(rt; call(alloc, words, input, 0, 0, &mut left)?, Status::Done);
+        assert_eq!(rt;
+            call(&rt, alloc, words, input, 0, 0, &mut left)?,
+            Status::Done
+        );
         let Some((counts, its_tag, state)) = first_object(&left) else {
             return Err("no bank".into());
         };
@@ -606,7 +682,10 @@ fn leaves_the_bank_of_each_kind(rt: HostRuntime) -> Result<(), Fail> {
         ("gen 0", "", 720, 324, [1458].as_slice(), 10_000),
     ] {
         let mut left = Left::Nothing;
-        assert_eq!(rt; call(alloc, words, input, 0, 0, &mut left)?, Status::Done);
+        assert_eq!(rt;
+            call(&rt, alloc, words, input, 0, 0, &mut left)?,
+            Status::Done
+        );
         let Some((counts, its_tag, state)) = first_object(&left) else {
             return Err("no bank".into());
         };
@@ -636,15 +715,19 @@ fn leaves_nothing_without_a_report(rt: HostRuntime) -> Result<(), Fail> {
         ("run 10", "task", 0, 0, Status::NotToml),
         ("run 10", SHARED, 0, 1, Status::WriteFault),
         ("run 10", SHARED, 0, 10, Status::WriteFault),
+        ("lanes 2 1", SHARED, 1, 0, Status::ReadFault),
+        ("lanes 2 1", "", 0, 0, Status::BadSet),
+        ("lanes 2 1", SHARED, 0, 1, Status::WriteFault),
+        ("lanes 2 1", SHARED, 0, 5, Status::WriteFault),
     ] {
         let mut left = Left::Nothing;
         assert_eq!(rt;
-            call(alloc, "run 6", OVERLOAD, 0, 0, &mut left)?,
+            call(&rt, alloc, "run 6", OVERLOAD, 0, 0, &mut left)?,
             Status::Adverse
         );
         assert!(rt; matches!(left, Left::Bank { .. }));
         assert_eq!(rt;
-            call(alloc, words, input, read_fails, write_fails, &mut left)?,
+            call(&rt, alloc, words, input, read_fails, write_fails, &mut left)?,
             want
         );
         assert!(rt; matches!(left, Left::Nothing));

@@ -9,11 +9,12 @@ ghost use Rattle.rx_tick.specs.Executive.{moment};
 ghost use Rattle.std.specs.Option.{ForSome};
 ghost use Rattle.rx_top.specs.declared.left.Left.TheVariants.{Nothing};
 ghost use Rattle.rx_top.specs.Words.{command_of, IsLimited};
-ghost use Rattle.rx_top.specs.Outcome.{Outcome, Headline, Tells, Admission, Drawing, ends, admit_answer, draw_answer, edf_status, input_answer, large_answer, fault_answer, fault_status, run_answer, set_answer};
+ghost use Rattle.rx_top.specs.Outcome.{Outcome, Headline, Tells, TellsOne, Admission, Sharing, Drawing, ends, admit_answer, draw_answer, edf_status, input_answer, lanes_answer, large_answer, fault_answer, fault_status, run_answer, set_answer};
 ghost use Rattle.rx_top.specs.Determined.{Determined, Unread};
 
 use crate::admits::{write_admission, write_spans};
 use crate::draws::{note_run, write_drawn};
+use crate::lanes::write_lanes;
 use crate::left::Left;
 use crate::runs::{Ended, write_run};
 use crate::status::Status;
@@ -24,7 +25,9 @@ use rx_edf::laws::verdicts_are_exact;
 use rx_file::{FileFault, read_set};
 use rx_fixed::Verdict;
 use rx_io::{Failed, ReadError, Sink, Source, put, read_all};
+use rx_lanes::{Gate, Run, run_lanes};
 use rx_port::Bank;
+use rx_report::laws::lines_tell_their_calls;
 use rx_report::{Line, fault_line};
 use rx_seq::NoMemory;
 use rx_set::laws::{drawn_sets_are_valid, least_times_serve};
@@ -35,6 +38,7 @@ use rx_tick::charges::retries_are_bounded;
 use rx_tick::laws::entries_follow_the_bodies;
 use rx_tick::windows::{fitting_spans_miss_nothing, served_sets_miss_nothing};
 use std::alloc::Global;
+use std::thread::Threads;
 
 // The most bytes of an input.
 const MOST_INPUT: usize = 1_048_576;
@@ -48,9 +52,13 @@ const DRAWN_TICKS: u64 = 100_000;
 /// `admit` reads a task file, in the form that `rx_file::read_set` says, and writes the line of the admission test of its
 /// policy, and under fixed priorities a line for each rank. `run N` reads one and writes the report of its schedule: the
 /// line of the test, the events of the slots 0 to N - 1, the misses at time N, a line for each object, and the line of
-/// the totals. `gen X` draws the set of a number (`rx_set::generate`), runs it for 100,000 ticks, and writes the line of
-/// the test, a line for each of ten intervals, a line for each object, and the line of the totals. N and X are words of 1
-/// to 20 ASCII digits, leading zeros allowed; N is at most 1,000,000 and X less than 2^64. All other words have no shape.
+/// the totals. `lanes K J` reads one, has K lanes make the operations of J jobs of each task on one shared table
+/// (`rx_lanes::run_lanes`), in threads of `rt` where it gives them, and writes how many lanes and jobs there were, a line
+/// for each operation, in the merged order, a line for each object, and how many operations there were. A lane passes
+/// `gate` before each of its operations. `gen X` draws the set of a number (`rx_set::generate`), runs it for 100,000 ticks,
+/// and writes the line of the test, a line for each of ten intervals, a line for each object, and the line of the totals.
+/// N, K, J and X are words of 1 to 20 ASCII digits, leading zeros allowed; N is at most 1,000,000, K is 1 to 16, J is 1 to
+/// 200, and X is less than 2^64. All other words have no shape.
 ///
 /// - `Done`: the whole report was written; that of `run` tells no miss, and that of `admit` says yes.
 /// - `Adverse`: the whole report was written; that of `run` tells a miss, and that of `admit` says no.
@@ -66,20 +74,25 @@ const DRAWN_TICKS: u64 = 100_000;
 /// - `NoMemory`: may come for any words that have a shape. Nothing was written.
 ///
 /// At `Done` and `Adverse` of `run`, and at `Done` of `gen`, `left` is the bank of the executive whose report was written:
-/// it stands for the history of that schedule. In every other case it is `Nothing`, whatever it was before.
+/// it stands for the history of that schedule. At `Done` of `lanes` it is the closed table of the lanes, where each lane's
+/// seat has the entries of its tasks. In every other case it is `Nothing`, whatever it was before.
 ///
 /// Where the status is another than `ReadFault`, `WriteFault` and `NoMemory`, neither the source nor the sink failed, and
 /// an input that is read and not too large is read to its end. Lines are handed to the sink one at a time, and the rest
 /// of a line again where the sink took less. After a failure no further call of either is made, which no clause says but
-/// tests show. It takes memory for the input and its document, for each word of the bank, and for a machine a task, all
-/// of it before the first write, and none for words of no shape; `gen` takes memory for its events instead of the input.
-/// The time is that of reading the file and of the test, and for each slot that of `Executive::tick` and of its lines.
+/// tests show. It takes memory for the input and its document, for each word of the bank or of the table, for a machine a
+/// task or a lane, and for `lanes` 16 bytes and two entries for each operation, all of it before the first write, and none
+/// for words of no shape; `gen` takes memory for its events instead of the input. The time is that of reading the file and
+/// of the test, and for each slot that of `Executive::tick` and of its lines; for `lanes` that of `run_lanes`, and for each
+/// operation that of `rx_report::entry_line`.
 /// Wants a count of faults below 2^63 of the source and of the sink.
-pub fn top<S: Source, K: Sink>(
+pub fn top<R: Threads + Sync, S: Source, K: Sink, G: Gate + Sync>(
+    rt: &R,
     alloc: Global,
     words: &[String],
     source: &mut S,
     sink: &mut K,
+    gate: &G,
     left: &mut Left,
 ) -> Status
     requires source { S.faults source.old < 2 ^ 63 }
@@ -91,7 +104,7 @@ pub fn top<S: Source, K: Sink>(
         (ends (S.left source.new) (S.faults source.new) (K.taken sink.new) (K.faults sink.new))
         left.new result }
 
-    // A command that reads gives the one answer to its input; a drawing and words of no shape have theirs.
+    // A command that reads gives the one answer to its input, and lanes one of theirs; a drawing and words of no shape have theirs.
     ensures determined { Determined (command_of (map string_bytes words.now))
         (ends (S.left source.old) (S.faults source.old) (K.taken sink.old) (K.faults sink.old))
         (ends (S.left source.new) (S.faults source.new) (K.taken sink.new) (K.faults sink.new))
@@ -113,6 +126,12 @@ pub fn top<S: Source, K: Sink>(
         (ends (S.left source.new) (S.faults source.new) (K.taken sink.new) (K.faults sink.new))
         left.new result }
 
+    // `lanes` on a set writes one legal history of its operations, whatever the threads did, and leaves the table that has it;
+    ensures sharing { Sharing (command_of (map string_bytes words.now))
+        (ends (S.left source.old) (S.faults source.old) (K.taken sink.old) (K.faults sink.old))
+        (ends (S.left source.new) (S.faults source.new) (K.taken sink.new) (K.faults sink.new))
+        left.new result }
+
     // and `gen` writes the report of the set of its number, and leaves the bank of its run.
     ensures drawing { Drawing (command_of (map string_bytes words.now))
         (ends (S.left source.old) (S.faults source.old) (K.taken sink.old) (K.faults sink.old))
@@ -126,16 +145,19 @@ pub fn top<S: Source, K: Sink>(
     retries_are_bounded();
     served_sets_miss_nothing();
     fitting_spans_miss_nothing();
+    lines_tell_their_calls();
     *left = Left::Nothing;
-    answer_words(alloc, command_of(words), source, sink, left)
+    answer_words(rt, alloc, command_of(words), source, sink, gate, left)
 }
 
 /// Answers the command, or says that there is none.
-fn answer_words<S: Source, K: Sink>(
+fn answer_words<R: Threads + Sync, S: Source, K: Sink, G: Gate + Sync>(
+    rt: &R,
     alloc: Global,
     command: Option<Command>,
     source: &mut S,
     sink: &mut K,
+    gate: &G,
     left: &mut Left,
 ) -> Status
     requires source { S.faults source.old < 2 ^ 63 }
@@ -148,7 +170,7 @@ fn answer_words<S: Source, K: Sink>(
         left.new result }
 {
     match command {
-        Some(command) => answer_command(alloc, command, source, sink, left),
+        Some(command) => answer_command(rt, alloc, command, source, sink, gate, left),
         None => match put(sink, b"words\n") {
             Ok(()) => Status::Words,
             Err(Failed) => Status::WriteFault,
@@ -157,11 +179,13 @@ fn answer_words<S: Source, K: Sink>(
 }
 
 /// Answers a command.
-fn answer_command<S: Source, K: Sink>(
+fn answer_command<R: Threads + Sync, S: Source, K: Sink, G: Gate + Sync>(
+    rt: &R,
     alloc: Global,
     command: Command,
     source: &mut S,
     sink: &mut K,
+    gate: &G,
     left: &mut Left,
 ) -> Status
     requires source { S.faults source.old < 2 ^ 63 }
@@ -174,17 +198,19 @@ fn answer_command<S: Source, K: Sink>(
         left.new result }
 {
     match command {
-        Command::Ask { query } => answer_query(alloc, query, source, sink, left),
+        Command::Ask { query } => answer_query(rt, alloc, query, source, sink, gate, left),
         Command::Draw { number } => draw(alloc, number, DRAWN_TICKS, sink, left),
     }
 }
 
 /// Reads the input, and answers a query.
-fn answer_query<S: Source, K: Sink>(
+fn answer_query<R: Threads + Sync, S: Source, K: Sink, G: Gate + Sync>(
+    rt: &R,
     alloc: Global,
     query: Query,
     source: &mut S,
     sink: &mut K,
+    gate: &G,
     left: &mut Left,
 ) -> Status
     requires source { S.faults source.old < 2 ^ 63 }
@@ -197,48 +223,52 @@ fn answer_query<S: Source, K: Sink>(
         left.new result }
 {
     match read_all(alloc, source, MOST_INPUT) {
-        Ok(input) => answer_input(alloc, query, input.as_slice(), sink, left),
+        Ok(input) => answer_input(rt, alloc, query, input.as_slice(), sink, gate, left),
         Err(ReadError::Fault) => Status::ReadFault,
         Err(ReadError::Memory) => Status::NoMemory,
     }
 }
 
 /// Answers a query to an input.
-fn answer_input<K: Sink>(
+fn answer_input<R: Threads + Sync, K: Sink, G: Gate + Sync>(
+    rt: &R,
     alloc: Global,
     query: Query,
     input: &[u8],
     sink: &mut K,
+    gate: &G,
     left: &mut Left,
 ) -> Status
     requires sink { K.faults sink.old < 2 ^ 63 }
     requires limits { IsLimited (Command.Ask query) }
     requires nothing { left.old ≡ Nothing }
-    ensures { Tells (input_answer (set_answer query) input.now)
+    ensures { TellsOne (λ history. input_answer (set_answer query history) input.now)
         (K.taken sink.old) (K.taken sink.new) (K.faults sink.old) (K.faults sink.new) left.new result }
 {
     if input.len() > MOST_INPUT {
         return refuse_size(sink);
     }
     match read_set(alloc, input) {
-        Ok(set) => answer_set(alloc, query, &set, sink, left),
+        Ok(set) => answer_set(rt, alloc, query, &set, sink, gate, left),
         Err(FileFault::NoMemory) => Status::NoMemory,
         Err(fault) => refuse_fault(&fault, sink),
     }
 }
 
 /// Answers a query to a set.
-fn answer_set<K: Sink>(
+fn answer_set<R: Threads + Sync, K: Sink, G: Gate + Sync>(
+    rt: &R,
     alloc: Global,
     query: Query,
     set: &TaskSet,
     sink: &mut K,
+    gate: &G,
     left: &mut Left,
 ) -> Status
     requires sink { K.faults sink.old < 2 ^ 63 }
     requires limits { IsLimited (Command.Ask query) }
     requires nothing { left.old ≡ Nothing }
-    ensures { Tells (set_answer query set.now)
+    ensures { TellsOne (λ history. set_answer query history set.now)
         (K.taken sink.old) (K.taken sink.new) (K.faults sink.old) (K.faults sink.new) left.new result }
 {
     // That the set is valid.
@@ -246,6 +276,9 @@ fn answer_set<K: Sink>(
     match query {
         Query::Run { ticks } => run_set(alloc, ticks, set, sink, left),
         Query::Admit => admit_set(set, sink),
+        Query::Lanes { workers, jobs } => {
+            share_set(rt, alloc, workers, jobs, set, sink, gate, left)
+        }
     }
 }
 
@@ -333,6 +366,41 @@ fn run_set<K: Sink>(
             } else {
                 Status::Adverse
             }
+        }
+        Err(Failed) => Status::WriteFault,
+    }
+}
+
+/// Has lanes make the operations of a set, and tells what they made.
+fn share_set<R: Threads + Sync, K: Sink, G: Gate + Sync>(
+    rt: &R,
+    alloc: Global,
+    workers: u32,
+    jobs: u32,
+    set: &TaskSet,
+    sink: &mut K,
+    gate: &G,
+    left: &mut Left,
+) -> Status
+    requires valid { IsValid set.now }
+    requires sink { K.faults sink.old < 2 ^ 63 }
+    requires limits { ((1 ≤ workers) × (workers ≤ 16)) × ((1 ≤ jobs) × (jobs ≤ 200)) }
+    requires nothing { left.old ≡ Nothing }
+    ensures { TellsOne (λ history. lanes_answer workers jobs history set.now)
+        (K.taken sink.old) (K.taken sink.new) (K.faults sink.old) (K.faults sink.new) left.new result }
+{
+    let Run {
+        lists: _,
+        merged,
+        closed,
+    } = match run_lanes(rt, alloc, set, workers, jobs, gate) {
+        Ok(run) => run,
+        Err(_) => return Status::NoMemory,
+    };
+    match write_lanes(set, workers, jobs, merged.as_slice(), &closed, sink) {
+        Ok(()) => {
+            *left = Left::Closed { closed };
+            Status::Done
         }
         Err(Failed) => Status::WriteFault,
     }

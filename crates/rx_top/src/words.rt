@@ -1,12 +1,18 @@
 //! What the words ask.
-ghost use Rattle.std.specs.Prelude.{◌≡◌, map, string_bytes};
+ghost use Rattle.rx_file.specs.Texts.{number_of};
+ghost use Rattle.std.specs.Prelude.{◌≡◌, ◌≤◌, map, string_bytes, IfSome};
 ghost use Rattle.std.specs.Option.{ForSome};
-ghost use Rattle.rx_top.specs.Words.{IsLimited, command_of, draw_of, one_word, run_of, two_words};
+ghost use Rattle.rx_top.specs.Words.{IsLimited, command_of, counted, draw_of, lanes_of, one_word, run_of, three_words, two_words};
 
 use rx_file::number_of;
 
 // The most slots of a run.
 const MOST_TICKS: u128 = 1_000_000;
+
+// The most lanes, and the most jobs of each task that they make.
+const MOST_LANES: u32 = 16;
+
+const MOST_JOBS: u32 = 200;
 
 // The most that the number of a drawn set can be.
 const MOST_NUMBER: u128 = 18_446_744_073_709_551_615;
@@ -18,6 +24,8 @@ pub enum Query {
     Run { ticks: u64 },
     /// What the admission test says of it.
     Admit,
+    /// Its operations for so many jobs, made by so many lanes.
+    Lanes { workers: u32, jobs: u32 },
 }
 
 /// A command, with its numbers in their limits.
@@ -67,6 +75,36 @@ fn draw_of(number: &[u8]) -> Option<Command>
     }
 }
 
+/// The number of a number word, if it is from 1 to the most.
+fn counted(most: u32, number: &[u8]) -> Option<u32>
+    ensures value { result ≡ counted most (number_of 20 number.now) }
+    ensures limits { IfSome result (λ n. (1 ≤ n) × (n ≤ most)) }
+{
+    match number_of(number, 20) {
+        Some(number) => {
+            if number >= 1 && number <= u128::from(most) {
+                Some(number as u32)
+            } else {
+                None
+            }
+        }
+        None => None,
+    }
+}
+
+/// The command `lanes` with these number words.
+fn lanes_of(workers: &[u8], jobs: &[u8]) -> Option<Command>
+    ensures value { result ≡ lanes_of workers.now jobs.now }
+    ensures limits { ForSome result IsLimited }
+{
+    match (counted(MOST_LANES, workers), counted(MOST_JOBS, jobs)) {
+        (Some(workers), Some(jobs)) => Some(Command::Ask {
+            query: Query::Lanes { workers, jobs },
+        }),
+        _ => None,
+    }
+}
+
 /// The command of one word.
 fn one_word(name: &[u8]) -> Option<Command>
     ensures value { result ≡ one_word name.now }
@@ -95,6 +133,18 @@ fn two_words(name: &[u8], number: &[u8]) -> Option<Command>
     }
 }
 
+/// The command of a word and two number words.
+fn three_words(name: &[u8], workers: &[u8], jobs: &[u8]) -> Option<Command>
+    ensures value { result ≡ three_words name.now workers.now jobs.now }
+    ensures limits { ForSome result IsLimited }
+{
+    if name == b"lanes".as_slice() {
+        lanes_of(workers, jobs)
+    } else {
+        None
+    }
+}
+
 /// The command that the words spell, if they have a shape.
 pub(crate) fn command_of(words: &[String]) -> Option<Command>
     ensures value { result ≡ command_of (map string_bytes words.now) }
@@ -104,6 +154,12 @@ pub(crate) fn command_of(words: &[String]) -> Option<Command>
         one_word(words[0].as_str().as_bytes())
     } else if words.len() == 2 {
         two_words(words[0].as_str().as_bytes(), words[1].as_str().as_bytes())
+    } else if words.len() == 3 {
+        three_words(
+            words[0].as_str().as_bytes(),
+            words[1].as_str().as_bytes(),
+            words[2].as_str().as_bytes(),
+        )
     } else {
         None
     }

@@ -1,4 +1,4 @@
-use Rattle.rx_top.proofs.Outcomes.{Laws, admission, determined, drawing, unread, headline}
+use Rattle.rx_top.proofs.Outcomes.{Laws, admission, determined, drawing, sharing, unread, headline}
 use Rattle.rx_top.proofs.tops.top.Goals as goal
 
 pub returns-clause-determined : goal.returns-clause-determined
@@ -51,3 +51,6 @@ returns-clause-drawing g c =
       earliest = c.fitting_spans_miss_nothing.ensures.earliest;
     } in
     drawing laws _ _ _ _ _ (rw c.command_of.ensures.value at c.answer_words.ensures)
+
+pub returns-clause-sharing : goal.returns-clause-sharing
+returns-clause-sharing g c = sharing c.lines_tell_their_calls.ensures.calls _ _ _ _ _ (rw c.command_of.ensures.value at c.answer_words.ensures)
