@@ -17,7 +17,7 @@ use Rattle.rx_machine.specs.Operations.{Unsettled, Settled, Outdated, Outlook, P
 use Rattle.rx_machine.specs.Works.{intent_of, outlook_by, writes_by, progress_of, operation_of, IsCounted, IsIdleTrade, IsWork, IsGoing, HasNoWrite, HasStepped}
 use Rattle.rx_machine.proofs.Working.{by_stage, open_is, going_running, going_follows, going_under}
 
-shown_later : (place : Home) (call : Call) (progress : Progress) (made : ℕ) (own : List ℕ) (outlook : Outlook) → IsShown place call progress own outlook → IsShown place call (record progress { made = made }) own outlook
+pub shown_later : (place : Home) (call : Call) (progress : Progress) (made : ℕ) (own : List ℕ) (outlook : Outlook) → IsShown place call progress own outlook → IsShown place call (record progress { made = made }) own outlook
 shown_later place call progress made own Unsettled h = h
 shown_later place call progress made own (Settled plan) h = h
 shown_later place call progress made own Outdated h = h

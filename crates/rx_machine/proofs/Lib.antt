@@ -6,6 +6,7 @@ pub mod Beginnings
 pub mod Decisions
 pub mod Collecting
 pub mod Idlings
+pub mod Passings
 pub mod Joinings
 pub mod Running
 pub mod Banking

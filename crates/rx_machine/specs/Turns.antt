@@ -1,8 +1,8 @@
 -- What becomes of a machine by its steps, whatever the port.
-use Rattle.std.specs.Prelude.{ℕ, ◌≡◌, ◌+◌, ◌<◌, List, [], ◌∷◌, ◌++◌, length, replicate, None, Some, IfSome}
+use Rattle.std.specs.Prelude.{ℕ, ◌≡◌, ◌+◌, ◌<◌, ◌≤◌, ◌⊎◌, List, [], ◌∷◌, ◌++◌, length, replicate, None, Some, IfSome}
 use Rattle.rx_machine.specs.declared.steps.Step.{Step}
 use Rattle.rx_machine.specs.declared.steps.Step.TheVariants.{Going, Idle, Won, Lost, Spent}
-use Rattle.rx_machine.specs.Operations.{Outlook, Progress, Operation, attempt_steps, position, goes_on, lost, over, IsBusy}
+use Rattle.rx_machine.specs.Operations.{Outlook, Unsettled, Settled, Outdated, Progress, Operation, attempt_steps, position, goes_on, lost, over, IsBusy}
 
 -- the attempt goes on by an event. No step of it was idle
 pub record Goes (old new : Operation) : Type 0 where
@@ -74,3 +74,32 @@ pub record IsInOrder (steps : List Step) : Type 0 where
   pub going : ℕ
   pub idle : ℕ
   pub steps_are : steps ≡ replicate going Going ++ replicate idle Idle
+
+-- some idle steps, one after the other, or none
+abbrev pub IsIdleRun : Operation → Operation → Type 0
+IsIdleRun old new = (count : ℕ) × IsRun old (replicate count Idle) new
+
+-- nothing but idle steps and the exchange is left of an attempt: each write of its plan was made, or it is given up
+abbrev pub IsThrough : Progress → Outlook → Type 0
+IsThrough progress Unsettled = ⊥
+IsThrough progress (Settled plan) = length progress.writes ≡ length plan.writes
+IsThrough progress Outdated = Unit {0}
+
+-- the next step is the last one of the attempt, which is through
+pub record Skips (old new : Operation) : Type 0 where
+  pub progress : Progress
+  pub is : old.progress ≡ Some progress
+  pub through : IsThrough progress old.outlook
+  pub made : ℕ
+  pub new_is : new ≡ goes_on old (record progress { made = made }) old.outlook
+  pub later : progress.made ≤ made
+  pub last : made + 1 ≡ attempt_steps old.place.part
+
+-- nothing changes, since no attempt is open that is through
+pub record Stays (old new : Operation) : Type 0 where
+  pub left : (progress : Progress) → old.progress ≡ Some progress → IsThrough progress old.outlook → ⊥
+  pub new_is : new ≡ old
+
+-- the idle steps that are left are passed over
+abbrev pub Passes : Operation → Operation → Type 0
+Passes old new = Skips old new ⊎ Stays old new

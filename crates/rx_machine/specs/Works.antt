@@ -15,7 +15,7 @@ use Rattle.rx_machine.specs.declared.works.Work.{Work}
 use Rattle.rx_machine.specs.AnyShapes.{any_home, any_asked, any_next, any_room, any_taken}
 use Rattle.rx_machine.specs.Operations.{attempt_steps, Intent, Outlook, Unsettled, Settled, Outdated, Progress, Operation, Follows}
 use Rattle.rx_machine.specs.Steps.{Tells}
-use Rattle.rx_machine.specs.Turns.{Turns}
+use Rattle.rx_machine.specs.Turns.{Turns, IsIdleRun, Passes}
 
 abbrev pub intent_of : Work → Intent
 intent_of work = record { root = work.plan.root; writes = work.plan.writes.items; pairs = work.plan.trade.pairs.items; reply = work.reply }
@@ -121,6 +121,13 @@ pub record HasSettled (layout : Layout) (view : View) (old new : Work) : Type 0 
   pub going : IsGoing layout view new
   pub stage : new.stage ≢ Reading
   pub same : operation_of new ≡ record (operation_of old) { outlook = outlook_by new.stage (intent_of new) }
+
+-- the idle steps that are left were passed over
+pub record HasPassed (old new : Work) : Type 0 where
+  pub passes : Passes (operation_of old) (operation_of new)
+  pub idle : IsIdleRun (operation_of old) (operation_of new)
+  pub follows : (layout : Layout) (view : View) → Follows layout view (operation_of old) → Follows layout view (operation_of new)
+  pub work_is : IsWork new
 
 -- a step was made
 module _ {P S : Type 0} (layout : Layout) (stands : P → S → Core → Type 0) (view : P → S → View) (port : P) (seat : S) (port' : P) (seat' : S) where

@@ -16,6 +16,7 @@ pub enum AnyShape {
 impl AnyShape {
     /// Makes it an attempt of another call, with no words taken, as `start` does. Where the form stays the same it takes
     /// the time to clear the words that were taken.
+    #[inline(always)]
     pub fn restart(&mut self, part: Part, call: Call, first: u32, count: u32)
         requires { IsServed (record { part = part; first = first; count = count }) call }
         ensures home { any_home self.new ≡ record { part = part; first = first; count = count } }
@@ -74,6 +75,7 @@ impl Shape for AnyShape {
         }
     }
 
+    #[inline(always)]
     fn plan(&self, root: u64, own: &ArrayVec<u32, 65>, out: &mut Plan) -> Reply {
         match self {
             AnyShape::Cell(shape) => shape.plan(root, own, out),

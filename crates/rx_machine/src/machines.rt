@@ -1,10 +1,11 @@
 // Machines.
 ghost use Rattle.rx_machine.specs.Operations.{Follows, fresh};
 ghost use Rattle.rx_machine.specs.Steps.{Tells};
-ghost use Rattle.rx_machine.specs.Turns.{Turns};
+ghost use Rattle.rx_machine.specs.Turns.{IsIdleRun, Passes, Turns};
+ghost use Rattle.rx_port.specs.declared.views.View.{View};
 ghost use Rattle.rx_seq.specs.History.{part_at};
 ghost use Rattle.rx_seq.specs.Table.{fits_part};
-ghost use Rattle.rx_shape.specs.Layout.{home};
+ghost use Rattle.rx_shape.specs.Layout.{Layout, home};
 ghost use Rattle.std.specs.Prelude.{ℕ, ◌≡◌, ◌<◌, ◌+◌, true, false, length};
 
 use crate::steps::Step;
@@ -90,5 +91,17 @@ impl Machine {
         ensures room { (n : ℕ) → P.room (n + 1) port.old → P.room n port.new }
     {
         works::make_step(&mut self.work, port, seat)
+    }
+
+    /// Passes over the idle steps that are left of an attempt: where it is given up, or planned with each of its writes
+    /// made, its next step is the last one, and else nothing changes. The machine becomes what those steps would make of
+    /// it. A caller to whom each step is a tick makes them all by `step`; one that counts no steps may call this where
+    /// `step` answers `Idle`. It makes no event, and takes constant time.
+    pub fn pass_idle(&mut self)
+        ensures passes { Passes self.old self.new }
+        ensures idle { IsIdleRun self.old self.new }
+        ensures follows { (layout : Layout) (view : View) → Follows layout view self.old → Follows layout view self.new }
+    {
+        works::pass_idle(&mut self.work);
     }
 }

@@ -84,6 +84,14 @@ impl Two {
         step_of(&mut self.bank, &mut self.second, 1)
     }
 
+    // Passes over idle steps of the first machine.
+    fn pass_first(&mut self)
+        requires { AreTwo self.old.bank self.old.first self.old.second }
+        ensures { AreTwo self.new.bank self.new.first self.new.second }
+    {
+        self.first.pass_idle();
+    }
+
     // Makes the first machine that of another call, and makes its steps up to the first that ends an attempt. It tells
     // how many made an event and how many none before that one.
     fn call(&mut self, call: Call) -> Option<(u32, u32, Step)>
@@ -205,6 +213,30 @@ fn attempts_of_each_kind(rt: HostRuntime) -> Result<(), Fail> {
         n: 4,
     };
     assert_eq!(rt; registers.call(shift), Some((7, 2, won(4, 2))));
+    Ok(())
+}
+
+// Where the idle steps are passed over, each word is read and written as before, and the exchange comes next.
+#[test]
+fn passed_idle_steps(rt: HostRuntime) -> Result<(), Fail> {
+    let put = Call::Put { v: 7 };
+    let mut two = match both_on(rt.alloc(), part(Kind::Queue, 64), 0, put, Call::Take) {
+        Ok(Some(two)) => two,
+        _ => return Err("no memory".into()),
+    };
+    for _ in 0..4 {
+        two.pass_first();
+        assert_eq!(rt; two.step_first(), Some(Step::Going));
+    }
+    two.pass_first();
+    let reply = Reply::Done { v: 1 };
+    assert_eq!(rt; two.step_first(), Some(Step::Won { reply, tag: 1 }));
+    let counts = Counts {
+        loads: 2,
+        stores: 2,
+        exchanges: 1,
+    };
+    assert_eq!(rt; two.bank.counts(), counts);
     Ok(())
 }
 

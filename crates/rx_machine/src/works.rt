@@ -1,7 +1,7 @@
 // The steps of an attempt, over any port.
 ghost use Rattle.rx_machine.specs.AnyShapes.{any_next, any_taken};
 ghost use Rattle.rx_machine.specs.Operations.{Follows, attempt_steps, fresh};
-ghost use Rattle.rx_machine.specs.Works.{HasNoPlace, HasNoWrite, HasSettled, HasStepped, IsGoing, IsNextPlace, IsNextWrite, IsWork, operation_of};
+ghost use Rattle.rx_machine.specs.Works.{HasNoPlace, HasNoWrite, HasPassed, HasSettled, HasStepped, IsGoing, IsNextPlace, IsNextWrite, IsWork, operation_of};
 ghost use Rattle.rx_machine.specs.declared.works.Stage.TheVariants.{Reading};
 ghost use Rattle.rx_port.specs.Core.{own_of};
 ghost use Rattle.rx_seq.specs.History.{part_at};
@@ -350,4 +350,19 @@ pub fn make_step<P: Port>(work: &mut Work, port: &mut P, seat: &mut P::Seat) -> 
     }
     settle(work, port, seat);
     go_on(work, port, seat)
+}
+
+/// Passes over the idle steps that are left: where nothing more has to be read or to be written, the next step is the
+/// last one. It makes no event.
+pub fn pass_idle(work: &mut Work)
+    requires work { IsWork work.old }
+    ensures { HasPassed work.old work.new }
+{
+    if work.made == 0 || work.stage == Stage::Reading {
+        return;
+    }
+    if let Some(_) = next_write(work) {
+        return;
+    }
+    work.made = work.steps - 1;
 }

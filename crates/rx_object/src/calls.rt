@@ -41,7 +41,8 @@ pub enum Outcome {
     },
 }
 
-/// Makes the steps of one attempt of a machine that has made none. After a lost attempt the machine is as before.
+/// Makes the steps of one attempt of a machine that has made none, and passes over those that are idle: no clock counts
+/// them here. After a lost attempt the machine is as before.
 pub(crate) fn try_once(machine: &mut Machine, port: &mut SharedPort<'_>, seat: &mut Seat) -> Try
     requires new { machine.old ≡ fresh machine.old.place machine.old.object machine.old.call }
     requires follows { Follows port.old.layout seat.old.view machine.old }
@@ -54,7 +55,7 @@ pub(crate) fn try_once(machine: &mut Machine, port: &mut SharedPort<'_>, seat: &
     loop {
         match machine.step(port, seat) {
             Step::Going => {}
-            Step::Idle => {}
+            Step::Idle => machine.pass_idle(),
             Step::Won { reply, tag } => return Try::Done { reply, tag },
             Step::Lost { expected, found } => return Try::Lost { expected, found },
             Step::Spent { tag } => return Try::Spent { tag },

@@ -39,7 +39,7 @@ impl Runner {
     }
 
     /// Makes one attempt of a call, as the function `attempt` does, with the machine that is kept. What it costs is the
-    /// steps of the attempt.
+    /// steps of the attempt, but that idle ones are passed over.
     pub fn attempt(&mut self, shared: &Shared, seat: &mut Seat, object: u32, call: Call) -> Try
         requires ours { IsSeatOf shared.now seat.old }
         requires exists { object < length shared.now.layout.parts }
@@ -55,7 +55,7 @@ impl Runner {
     }
 
     /// Makes a whole call, as the function `operate` does, with the machine that is kept. What it costs is the steps of
-    /// its attempts.
+    /// its attempts, but that idle ones are passed over.
     pub fn operate(&mut self, shared: &Shared, seat: &mut Seat, object: u32, call: Call) -> Outcome
         requires ours { IsSeatOf shared.now seat.old }
         requires exists { object < length shared.now.layout.parts }

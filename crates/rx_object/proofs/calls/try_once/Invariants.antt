@@ -4,8 +4,8 @@ use Rattle.rx_table.specs.Boards.{IsSeatOf}
 use Rattle.rx_object.proofs.Trying.{IsInAttempt}
 use Rattle.rx_object.proofs.calls.try_once.Given as goal
 
-abbrev pub invariant-loop-reply : goal.invariant-loop-reply
-invariant-loop-reply l = record {
+abbrev pub invariant-loop-machine : goal.invariant-loop-machine
+invariant-loop-machine l = record {
   same : lost l.machine ≡ l.fn.machine;
   live : l.machine.ended ≡ l.fn.machine.ended;
   follows : Follows l.port.layout l.seat.view l.machine;
@@ -14,5 +14,5 @@ invariant-loop-reply l = record {
   so_far : IsInAttempt l.port.layout l.machine.object l.fn.seat.view l.seat.view l.machine.progress;
 }
 
-abbrev pub decreases-loop-reply : goal.decreases-loop-reply
-decreases-loop-reply l = attempt_steps l.fn.machine.place.part - position l.machine
+abbrev pub decreases-loop-machine : goal.decreases-loop-machine
+decreases-loop-machine l = attempt_steps l.fn.machine.place.part - position l.machine
