@@ -46,11 +46,11 @@ plain_from (x ∷ xs) (y ∷ ys) a r =
     tail a b us vs e = cc
 
 -- tags, states and entries on an object do not look at callers
-tag_plain : (object : ℕ) (es : List Entry) → tag_of object (map plain es) ≡ tag_of object es
+pub tag_plain : (object : ℕ) (es : List Entry) → tag_of object (map plain es) ≡ tag_of object es
 tag_plain object [] = refl
 tag_plain object (e ∷ es) = rw (tag_plain object es) refl
 
-replay_plain : (parts : List Part) (object : ℕ) (es : List Entry) → replay parts object (map plain es) ≡ replay parts object es
+pub replay_plain : (parts : List Part) (object : ℕ) (es : List Entry) → replay parts object (map plain es) ≡ replay parts object es
 replay_plain parts object [] = refl
 replay_plain parts object (e ∷ es) = rw (replay_plain parts object es) refl
 

@@ -1,24 +1,9 @@
 // How many operations there are in scripts.
-ghost use Rattle.rx_set.specs.Operations.{operations_of, script_of};
+ghost use Rattle.rx_set.specs.Operations.{script_of};
 ghost use Rattle.rx_lanes.specs.Scripts.{calls_to};
 ghost use Rattle.std.specs.Prelude.{◌≡◌, ◌≤◌, ◌<◌, ◌*◌, length};
 
-use rx_set::{Item, TaskSet};
-
-/// How many operations are among the items of a body. Its cost grows with the number of items.
-pub(crate) fn count_operations(items: &[Item]) -> usize
-    ensures count { result ≡ length (operations_of items.now) }
-    ensures few { result ≤ length items.now }
-{
-    let mut count = 0;
-    for item in items {
-        match item {
-            Item::Work { n: _ } => {}
-            Item::Op { object: _, call: _ } => count += 1,
-        }
-    }
-    count
-}
+use rx_set::TaskSet;
 
 /// How many operations the script of a task has, for so many jobs. Its cost grows with the number of items of its body.
 pub(crate) fn count_script(set: &TaskSet, jobs: u32, task: usize) -> usize
@@ -27,7 +12,7 @@ pub(crate) fn count_script(set: &TaskSet, jobs: u32, task: usize) -> usize
     ensures count { result ≡ length (script_of set.now jobs task) }
     ensures few { result ≤ 12800 }
 {
-    jobs as usize * count_operations(set.tasks()[task].body.items())
+    jobs as usize * set.tasks()[task].body.operations()
 }
 
 /// How many operations a lane makes for its tasks among the first so many. Its cost grows with the number of their items.

@@ -177,8 +177,9 @@ fn is_set_in_time(flag: &AtomicBool) -> bool {
     false
 }
 
-/// Lane 0 waits before its first operation until lane 1 is at its third one, and lane 1 before its first one until lane 0
-/// is at its own. Were the gate passed after an operation, the first one of lane 0 would come before the second of lane 1.
+/// Lane 0 waits before its first operation until lane 1 is at its third one, and lane 1 before its first one until lane
+/// 0 is at its own. Were the gate passed after an operation, lane 0 would make its first one before lane 1 makes its
+/// second one.
 #[derive(Drop)]
 struct Waiting {
     first: AtomicBool,

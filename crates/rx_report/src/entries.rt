@@ -1,7 +1,6 @@
 // The lines of what the tasks did on threads.
 ghost use Rattle.std.specs.Prelude.{◌≡◌, ◌≤◌, ◌+◌, ◌++◌, length};
 ghost use Rattle.rx_report.specs.LaneLines.{calls_line, entry_item, entry_job, entry_line, entry_text, item_after, lanes_line, operations};
-ghost use Rattle.rx_set.specs.Operations.{operations_of};
 ghost use Rattle.rx_set.specs.System.{task_at};
 
 use crate::items::push_item;
@@ -10,20 +9,6 @@ use crate::lines::{Line, push_field, push_spaced, push_text};
 use crate::replies::push_reply;
 use rx_seq::Entry;
 use rx_set::{Item, Job, TaskSet};
-
-/// How many of these items are operations.
-fn count_operations(items: &[Item]) -> u64
-    ensures { result ≡ length (operations_of items.now) }
-{
-    let mut count = 0;
-    for item in items {
-        match item {
-            Item::Work { n: _ } => {}
-            Item::Op { object: _, call: _ } => count += 1,
-        }
-    }
-    count
-}
 
 /// The number, from 1, of the item that is the operation of this number, from 0.
 fn item_after(number: u64, items: &[Item]) -> u32
@@ -47,14 +32,15 @@ fn item_after(number: u64, items: &[Item]) -> u32
     place
 }
 
-/// The items of a task, if the set has it.
-fn items_of(set: &TaskSet, task: u32) -> &[Item]
-    ensures value { result.now ≡ (task_at set.now task).items }
-    ensures few { length result.now ≤ 64 }
+/// How many operations a job of a task makes, and the items of its body. Where the set has no such task, these are none.
+fn body_of(set: &TaskSet, task: u32) -> (u64, &[Item])
+    ensures operations { result.0 ≡ operations set.now task }
+    ensures items { result.1.now ≡ (task_at set.now task).items }
+    ensures few { length result.1.now ≤ 64 }
 {
     match set.tasks().get(task as usize) {
-        Some(task) => task.body.items(),
-        None => &[],
+        Some(task) => ((task.body.operations() as u64).max(1), task.body.items()),
+        None => (1, &[]),
     }
 }
 
@@ -63,8 +49,7 @@ fn made_by(set: &TaskSet, entry: &Entry) -> (Job, u32)
     ensures job { result.0 ≡ entry_job set.now entry.now }
     ensures item { result.1 ≡ entry_item set.now entry.now }
 {
-    let items = items_of(set, entry.caller);
-    let operations = count_operations(items).max(1);
+    let (operations, items) = body_of(set, entry.caller);
     let before = entry.index.saturating_sub(1);
     let job = Job {
         task: entry.caller,

@@ -1,5 +1,6 @@
 // What a job does.
-ghost use Rattle.std.specs.Prelude.{◌≡◌};
+ghost use Rattle.rx_set.specs.Operations.{operations_of};
+ghost use Rattle.std.specs.Prelude.{◌≡◌, ◌≤◌, length};
 
 use rx_seq::Call;
 use std::marker::Model;
@@ -41,5 +42,20 @@ impl Body {
         ensures { result.now ≡ self.now }
     {
         self.items.as_slice()
+    }
+
+    /// How many of its items are operations. Its cost grows with the number of items.
+    pub fn operations(&self) -> usize
+        ensures count { result ≡ length (operations_of self.now) }
+        ensures few { result ≤ length self.now }
+    {
+        let mut count = 0;
+        for item in self.items() {
+            match item {
+                Item::Work { n: _ } => {}
+                Item::Op { object: _, call: _ } => count += 1,
+            }
+        }
+        count
     }
 }

@@ -1,7 +1,7 @@
 use Rattle.std.proofs.Common.{◌≤◌, length, subst, sym, List}
 use Rattle.rx_set.specs.declared.items.Item.{Item}
 use Rattle.rx_report.proofs.Found.{found_few}
-use Rattle.rx_report.proofs.entries.items_of.Goals as goal
+use Rattle.rx_report.proofs.entries.body_of.Goals as goal
 
 pub returns-in-Some-clause-few : goal.returns-in-Some-clause-few
 returns-in-Some-clause-few c =
