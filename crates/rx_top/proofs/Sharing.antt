@@ -1,5 +1,5 @@
 -- What lanes made, and how it is told.
-use Rattle.std.proofs.Common.{ℕ, ◌≡◌, ◌+◌, List, [], ◌∷◌, ◌++◌, length, map, reverse, ◌==◌, refl, sym, ap, ap₂, ◌∙◌, subst, inl, inr, arith}
+use Rattle.std.proofs.Common.{ℕ, ◌≡◌, ◌+◌, List, [], ◌∷◌, ◌++◌, length, reverse, ◌==◌, refl, sym, ap, ap₂, ◌∙◌, subst, inl, inr, arith}
 use Rattle.std.specs.List.{flat_map}
 use Rattle.std.proofs.lemmas.Bool.{cases_Bool}
 use Rattle.std.proofs.lemmas.List.{length-reverse, reverse-reverse}
@@ -9,9 +9,9 @@ use Rattle.rx_seq.specs.Table.{effect}
 use Rattle.rx_seq.specs.History.{part_at, replay, tag_of}
 use Rattle.rx_set.specs.System.{System, numbers, parts_of}
 use Rattle.rx_merge.specs.Merged.{entries_on}
-use Rattle.rx_lanes.specs.Lists.{plain}
 use Rattle.rx_lanes.specs.Histories.{HaveSameObjects}
 use Rattle.rx_lanes.specs.Runs.{AreShared, lists_in, table_of}
+use Rattle.rx_lanes.proofs.Plain.{tag_plain, replay_plain}
 use Rattle.rx_table.specs.Closings.{Ending, HasEnded}
 use Rattle.rx_report.specs.Lines.{object_line}
 use Rattle.rx_report.specs.LaneLines.{calls_line, entry_line}
@@ -33,14 +33,6 @@ replay_on parts object (e ∷ es) = elim (cases_Bool (object == e.object)) [
   | inl y ↦ rw (y, y) (ap (λ (s : List ℕ). (effect (part_at parts object) s e.call).state) (replay_on parts object es))
   | inr n ↦ rw n (replay_on parts object es)
 ]
-
-tag_plain : (object : ℕ) (es : List Entry) → tag_of object (map plain es) ≡ tag_of object es
-tag_plain object [] = refl
-tag_plain object (e ∷ es) = rw (tag_plain object es) refl
-
-replay_plain : (parts : List Part) (object : ℕ) (es : List Entry) → replay parts object (map plain es) ≡ replay parts object es
-replay_plain parts object [] = refl
-replay_plain parts object (e ∷ es) = rw (replay_plain parts object es) refl
 
 -- so two histories with the same entries on each object have the same lines of the objects
 module _ (system : System) (history other : List Entry) (same : HaveSameObjects history other) where

@@ -1,5 +1,6 @@
 // What lanes make of two tasks that add to one cell, two lanes that meet at a gate, and what a failed write leaves.
 use super::*;
+use crate::tests::split;
 use rx_io::{InSource, MemorySink, MemorySource, OutSink};
 use rx_lanes::{Gate, NoGate};
 use rx_seq::State;
@@ -31,15 +32,6 @@ const KINDS: &str =
 const KINDS_REPORT: &str =
     "lanes 3 jobs 1\na 1 1 put q 5 -> done 1 tag 1\na 1 2 take q -> done 5 tag 2\nb 1 1 insert l 3 -> added tag 1\nb 1 3 insert l 4 -> full tag 2\nb 1 4 remove l 3 -> removed tag 3\nd 1 1 multi r 0 0 7 -> done 1 tag 1\nd 1 2 shift r 0 1 7 -> done 7 tag 2\nd 1 3 multi r 1 7 0 -> done 1 tag 3\nf 1 1 get c -> done 0 tag 1\nobject q queue tag 2 state\nobject l list tag 3 state\nobject r registers tag 3 state 0 0\nobject c cell tag 1 state 0\ntotal calls 9\n";
 
-/// The words of a command.
-fn words_of(alloc: Global, text: &str) -> Result<Vec<String>, AllocError> {
-    let mut words = Vec::new(alloc);
-    for word in text.split(' ') {
-        words.push(String::from_str(alloc, word)?)?;
-    }
-    Ok(words)
-}
-
 /// Answers the words and the input: the status, what was taken, and what is left. The call of the sink with this number
 /// fails, and none where the number is 0.
 fn call<G: Gate + Sync>(
@@ -50,7 +42,7 @@ fn call<G: Gate + Sync>(
     gate: &G,
     write_fails: u64,
 ) -> Result<(Status, Vec<u8>, Left), Fail> {
-    let words = words_of(alloc, text)?;
+    let words = split(alloc, text)?;
     let bytes = input.as_bytes().to_vec(alloc)?;
     let mut source = MemorySource::new(bytes, 4096, Vec::new(alloc));
     let made = MemorySink::new(alloc, 16_384, 4096, [write_fails].to_vec(alloc)?);
@@ -212,7 +204,7 @@ fn call_once(
     text: &str,
     input: &str,
 ) -> Result<(Status, Left, u64, usize), Fail> {
-    let words = words_of(alloc, text)?;
+    let words = split(alloc, text)?;
     let mut source = InSource::new(input.as_bytes());
     let mut sink = OutSink::new(OnePiece { calls: 0 });
     let mut left = Left::Nothing;

@@ -164,7 +164,8 @@ const LONG: &str =
 const DRAWN: &str =
     "test yes\nwindow 0 10000 retries 0 preemptions 4\nwindow 10000 20000 retries 0 preemptions 4\nwindow 20000 30000 retries 0 preemptions 2\nwindow 30000 40000 retries 0 preemptions 3\nwindow 40000 50000 retries 0 preemptions 3\nwindow 50000 60000 retries 0 preemptions 4\nwindow 60000 70000 retries 0 preemptions 3\nwindow 70000 80000 retries 0 preemptions 3\nwindow 80000 90000 retries 0 preemptions 3\nwindow 90000 100000 retries 0 preemptions 4\nobject c cell tag 324 state 1458\nobject q queue tag 117 state\nobject l list tag 162 state\nobject r registers tag 117 state 0 0 0 0\ntotal ticks 100000 idle 89959 released 896 finished 896 replies 720 retries 0 preempted 33 missed 0\n";
 
-fn split(alloc: Global, text: &str) -> Result<Vec<String>, AllocError> {
+/// The words of a command.
+pub(crate) fn split(alloc: Global, text: &str) -> Result<Vec<String>, AllocError> {
     let mut words = Vec::new(alloc);
     for word in text.split(' ') {
         words.push(String::from_str(alloc, word)?)?;
