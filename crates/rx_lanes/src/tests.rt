@@ -8,7 +8,7 @@ use std::process::Abort;
 use std::sync::atomic::{AtomicBool, AtomicU64, Ordering};
 use std::test::Fail;
 
-/// A task that adds 1 to a cell, and one that adds 5 to it.
+/// A task that adds 1 to a cell twice, and one that adds 5 to it.
 fn two_tasks(alloc: Global) -> Result<TaskSet, Fail> {
     let one = Item::Op {
         object: 0,
@@ -23,7 +23,7 @@ fn two_tasks(alloc: Global) -> Result<TaskSet, Fail> {
         period: 10,
         deadline: 10,
         offset: 0,
-        body: Body::of(vec![in alloc; one]?),
+        body: Body::of(vec![in alloc; one, one]?),
     };
     let b = Task {
         name: Name::from("b")?,
@@ -76,7 +76,7 @@ fn lanes_meet(rt: HostRuntime) -> Result<(), Fail> {
         met: [AtomicBool::new(false), AtomicBool::new(false)],
     };
     match run_lanes(&rt, rt.alloc(), &set, 2, 1, &meeting) {
-        Ok(run) => assert_eq!(&rt; run.merged.len(), 2),
+        Ok(run) => assert_eq!(&rt; run.merged.len(), 3),
         Err(NoMemory) => return Err("no memory".into()),
     }
     for lane in 0..2 {
@@ -91,10 +91,10 @@ fn check_adds(rt: &impl Abort, run: &Run, workers: u32) {
     assert!(rt; 0 < layout.parts().len());
     let mut state = State::new();
     run.closed.state(0, &mut state);
-    assert_eq!(rt; run.closed.tag(0), 100, "{workers} lanes");
-    assert_eq!(rt; state.as_slice(), [300].as_slice(), "{workers} lanes");
+    assert_eq!(rt; run.closed.tag(0), 150, "{workers} lanes");
+    assert_eq!(rt; state.as_slice(), [350].as_slice(), "{workers} lanes");
     assert_eq!(rt; run.lists.len(), 2, "{workers} lanes");
-    assert_eq!(rt; run.merged.len(), 100, "{workers} lanes");
+    assert_eq!(rt; run.merged.len(), 150, "{workers} lanes");
 }
 
 #[test]
@@ -150,9 +150,9 @@ fn lanes_count_their_operations(rt: HostRuntime) -> Result<(), Fail> {
     let set = two_tasks(rt.alloc())?;
     // A lane makes its whole tasks, so that the third and the fourth have none.
     for (workers, want) in [
-        (1, [100].as_slice()),
-        (2, [50, 50].as_slice()),
-        (4, [50, 50, 0, 0].as_slice()),
+        (1, [150].as_slice()),
+        (2, [100, 50].as_slice()),
+        (4, [100, 50, 0, 0].as_slice()),
     ] {
         let counting = Counting {
             passed: from_fn(|_| AtomicU64::new(0)),
