@@ -13,7 +13,7 @@ use Rattle.rx_set.specs.Valid.{IsValid, IsItem}
 use Rattle.rx_set.specs.View.{row_of}
 use Rattle.rx_set.proofs.Counts.{length-numbers, get_or-numbers}
 use Rattle.rx_set.proofs.Readings.{attempt_bound}
-use Rattle.rx_edf.specs.Shares.{IsShare, AreShares, share_of, shares_of, no_share, share_at}
+use Rattle.rx_edf.specs.ChargedTasks.{IsChargedTask, AreChargedTasks, charged_task_of, charged_tasks_of, no_charged_task, charged_task_at}
 
 -- of an item
 item_bound : (system : System) (item : Item) → IsValid system → IsItem system item → (1 ≤ item_cost system item) × (item_cost system item ≤ 1000000)
@@ -55,28 +55,28 @@ retry_bound system valid =
     by_item task known place (Some (Op object call)) e = (attempt_bound system object valid ((valid.tasks task known).items place (Op object call) e).0).1
 
 -- of a task
-pub share_valid : (system : System) (task : ℕ) → IsValid system → task < length system.tasks → IsShare (share_of system task)
-share_valid system task valid known =
+pub charged_task_valid : (system : System) (task : ℕ) → IsValid system → task < length system.tasks → IsChargedTask (charged_task_of system task)
+charged_task_valid system task valid known =
     let row = valid.tasks task known in
     let work = cost_bound system task valid known in
     record { period = row.period; deadline = row.deadline; cost = (omega (arith, work.0), omega (arith, work.1, retry_bound system valid)) }
 
 -- of all tasks
-pub length-shares : (system : System) → length (shares_of system) ≡ length system.tasks
-length-shares system = length-map (numbers (length system.tasks)) (share_of system) ∙ length-numbers (length system.tasks)
+pub length-charged_tasks : (system : System) → length (charged_tasks_of system) ≡ length system.tasks
+length-charged_tasks system = length-map (numbers (length system.tasks)) (charged_task_of system) ∙ length-numbers (length system.tasks)
 
-pub share_here : (system : System) (task : ℕ) → task < length system.tasks → share_at (shares_of system) task ≡ share_of system task
-share_here system task known =
-    get_or-map (share_of system) (numbers (length system.tasks)) task 0 no_share (omega (arith, length-numbers (length system.tasks), known))
-    ∙ ap (share_of system) (get_or-numbers (length system.tasks) task known)
+pub charged_task_here : (system : System) (task : ℕ) → task < length system.tasks → charged_task_at (charged_tasks_of system) task ≡ charged_task_of system task
+charged_task_here system task known =
+    get_or-map (charged_task_of system) (numbers (length system.tasks)) task 0 no_charged_task (omega (arith, length-numbers (length system.tasks), known))
+    ∙ ap (charged_task_of system) (get_or-numbers (length system.tasks) task known)
 
-pub shares_valid : (system : System) → IsValid system → AreShares (shares_of system)
-shares_valid system valid = record {
-  some = omega (arith, length-shares system, valid.some_tasks.0);
-  few = omega (arith, length-shares system, valid.some_tasks.1);
+pub charged_tasks_valid : (system : System) → IsValid system → AreChargedTasks (charged_tasks_of system)
+charged_tasks_valid system valid = record {
+  some = omega (arith, length-charged_tasks system, valid.some_tasks.0);
+  few = omega (arith, length-charged_tasks system, valid.some_tasks.1);
   each = λ task h.
-      let known : task < length system.tasks = omega (arith, h, length-shares system) in
-      subst IsShare (sym (share_here system task known)) (share_valid system task valid known);
+      let known : task < length system.tasks = omega (arith, h, length-charged_tasks system) in
+      subst IsChargedTask (sym (charged_task_here system task known)) (charged_task_valid system task valid known);
 }
 
 -- a task that is read

@@ -9,8 +9,8 @@ use Rattle.std.proofs.lemmas.Nat.Gcd.{IsGcd-from_zero, IsGcd-from_mod}
 use Rattle.std.specs.Int.{IsGcd, ◌∣◌}
 use Rattle.rx_set.specs.Admission.{first_to}
 use Rattle.rx_set.proofs.Firsts.{first_none, first_some}
-use Rattle.rx_edf.specs.declared.shares.Share.{Share}
-use Rattle.rx_edf.specs.Shares.{AreShares, share_at, common, or_zero, cycle_to}
+use Rattle.rx_edf.specs.declared.charged_tasks.ChargedTask.{ChargedTask}
+use Rattle.rx_edf.specs.ChargedTasks.{AreChargedTasks, charged_task_at, common, or_zero, cycle_to}
 
 test_passes : (a b k : ℕ) → b ∣ a * k → (a * k % b == 0) ≡ true
 test_passes a b k d = let e : a * k % b ≡ 0 = mod-eq-zero_of_dvd b d in grind (arith, nat_tests)
@@ -105,39 +105,39 @@ common_some a b one some =
     let k : ℕ = found.0 in
     omega (arith, found.1.is, le-mul_of_pos_right {m = k} a (omega (arith, found.1.some)))
 
-pub cycle_some : (shares : List Share) (n : ℕ) → AreShares shares → n ≤ length shares → 1 ≤ cycle_to shares n
-cycle_some shares zero are h = omega arith
-cycle_some shares (suc n) are h =
-    let earlier = cycle_some shares n are (omega (arith, h)) in
-    omega (arith, earlier, common_some (cycle_to shares n) (share_at shares n).period earlier ((are.each n (omega (arith, h))).period.0))
+pub cycle_some : (charged : List ChargedTask) (n : ℕ) → AreChargedTasks charged → n ≤ length charged → 1 ≤ cycle_to charged n
+cycle_some charged zero are h = omega arith
+cycle_some charged (suc n) are h =
+    let earlier = cycle_some charged n are (omega (arith, h)) in
+    omega (arith, earlier, common_some (cycle_to charged n) (charged_task_at charged n).period earlier ((are.each n (omega (arith, h))).period.0))
 
-pub cycle_more : (shares : List Share) (m n : ℕ) → AreShares shares → n ≤ length shares → m ≤ n → cycle_to shares m ≤ cycle_to shares n
-cycle_more shares m zero are h below =
+pub cycle_more : (charged : List ChargedTask) (m n : ℕ) → AreChargedTasks charged → n ≤ length charged → m ≤ n → cycle_to charged m ≤ cycle_to charged n
+cycle_more charged m zero are h below =
     let same : m ≡ 0 = omega (arith, below) in
-    subst (λ (k : ℕ). cycle_to shares k ≤ 1) (sym same) (omega arith)
-cycle_more shares m (suc n) are h below = elim (dec_le m n) [
+    subst (λ (k : ℕ). cycle_to charged k ≤ 1) (sym same) (omega arith)
+cycle_more charged m (suc n) are h below = elim (dec_le m n) [
   | yes earlier ↦
-      let before = cycle_more shares m n are (omega (arith, h)) earlier in
-      omega (arith, before, common_some (cycle_to shares n) (share_at shares n).period (cycle_some shares n are (omega (arith, h))) ((are.each n (omega (arith, h))).period.0))
+      let before = cycle_more charged m n are (omega (arith, h)) earlier in
+      omega (arith, before, common_some (cycle_to charged n) (charged_task_at charged n).period (cycle_some charged n are (omega (arith, h))) ((are.each n (omega (arith, h))).period.0))
   | no last ↦
       let same : m ≡ suc n = omega (arith, below, last) in
-      subst (λ (k : ℕ). cycle_to shares k ≤ cycle_to shares (suc n)) (sym same) (omega arith)
+      subst (λ (k : ℕ). cycle_to charged k ≤ cycle_to charged (suc n)) (sym same) (omega arith)
 ]
 
-pub cycle_divides : (shares : List Share) (n place : ℕ) → AreShares shares → n ≤ length shares → place < n → (share_at shares place).period ∣ cycle_to shares n
-cycle_divides shares zero place are h below = absurd (omega (arith, below))
-cycle_divides shares (suc n) place are h below =
+pub cycle_divides : (charged : List ChargedTask) (n place : ℕ) → AreChargedTasks charged → n ≤ length charged → place < n → (charged_task_at charged place).period ∣ cycle_to charged n
+cycle_divides charged zero place are h below = absurd (omega (arith, below))
+cycle_divides charged (suc n) place are h below =
     let some = (are.each n (omega (arith, h))).period.0 in
-    let found = common_found (cycle_to shares n) (share_at shares n).period some in
+    let found = common_found (cycle_to charged n) (charged_task_at charged n).period some in
     let k : ℕ = found.0 in
     elim (dec_le (suc place) n) [
       | yes earlier ↦
-          subst (λ m. (share_at shares place).period ∣ m) (sym found.1.is)
-          (dvd-mul_right_of_dvd (share_at shares place).period (cycle_divides shares n place are (omega (arith, h)) earlier) k)
+          subst (λ m. (charged_task_at charged place).period ∣ m) (sym found.1.is)
+          (dvd-mul_right_of_dvd (charged_task_at charged place).period (cycle_divides charged n place are (omega (arith, h)) earlier) k)
       | no last ↦
           let same : n ≡ place = omega (arith, below, last) in
-          subst (λ j. (share_at shares j).period ∣ common (cycle_to shares n) (share_at shares n).period) same
-          (subst (λ m. (share_at shares n).period ∣ m) (sym found.1.is) found.1.divides)
+          subst (λ j. (charged_task_at charged j).period ∣ common (cycle_to charged n) (charged_task_at charged n).period) same
+          (subst (λ m. (charged_task_at charged n).period ∣ m) (sym found.1.is) found.1.divides)
     ]
 
 -- a common multiple of both numbers is a multiple of the least one
@@ -167,7 +167,7 @@ common_least a b n some of_a of_b =
     nothing : (a : ℕ) → a * 0 ≡ 0
     nothing a = omega arith
 
-pub cycle_least : (shares : List Share) (n m : ℕ) → AreShares shares → n ≤ length shares → ((place : ℕ) → place < length shares → (share_at shares place).period ∣ m) → cycle_to shares n ∣ m
-cycle_least shares zero m are h each = one-dvd m
-cycle_least shares (suc n) m are h each =
-    common_least (cycle_to shares n) (share_at shares n).period m (are.each n (omega (arith, h))).period.0 (cycle_least shares n m are (omega (arith, h)) each) (each n (omega (arith, h)))
+pub cycle_least : (charged : List ChargedTask) (n m : ℕ) → AreChargedTasks charged → n ≤ length charged → ((place : ℕ) → place < length charged → (charged_task_at charged place).period ∣ m) → cycle_to charged n ∣ m
+cycle_least charged zero m are h each = one-dvd m
+cycle_least charged (suc n) m are h each =
+    common_least (cycle_to charged n) (charged_task_at charged n).period m (are.each n (omega (arith, h))).period.0 (cycle_least charged n m are (omega (arith, h)) each) (each n (omega (arith, h)))

@@ -1,4 +1,4 @@
-pub mod Shares
+pub mod ChargedTasks
 pub mod Trees
 pub mod Verdicts
 pub mod Rows

@@ -7,7 +7,7 @@ use Rattle.rx_set.specs.declared.items.Item.{Item}
 use Rattle.rx_set.specs.declared.items.Item.TheVariants.{Work, Op}
 use Rattle.rx_set.specs.System.{System, TaskRow}
 use Rattle.rx_edf.specs.declared.verdicts.EdfVerdict.TheVariants.{Yes, No}
-use Rattle.rx_edf.specs.Shares.{shares_of, common, cycle_of, work_of, slack_of, points_to}
+use Rattle.rx_edf.specs.ChargedTasks.{charged_tasks_of, common, cycle_of, work_of, weighted_shortening_of, points_up_to}
 use Rattle.rx_edf.specs.Verdicts.{last_point, verdict_of}
 
 abbrev task : ℕ → ℕ → List Item → TaskRow
@@ -28,23 +28,23 @@ multiple_of_both = refl
 pub multiple_of_one : common 12 4 ≡ 12
 multiple_of_one = refl
 
--- two tasks whose shares are three quarters: in 3 ticks 4 are due
+-- two tasks whose utilization is three quarters: in 3 ticks 4 are due
 abbrev crowded : System
 crowded = system (task 4 2 (Work 2 ∷ []) ∷ task 8 3 (Work 2 ∷ []) ∷ [])
 
-pub cycle_of_crowded : cycle_of (shares_of crowded) ≡ 8
+pub cycle_of_crowded : cycle_of (charged_tasks_of crowded) ≡ 8
 cycle_of_crowded = refl
 
-pub work_of_crowded : work_of (shares_of crowded) 8 ≡ 6
+pub work_of_crowded : work_of (charged_tasks_of crowded) 8 ≡ 6
 work_of_crowded = refl
 
-pub slack_of_crowded : slack_of (shares_of crowded) 8 ≡ 18
-slack_of_crowded = refl
+pub weighted_shortening_of_crowded : weighted_shortening_of (charged_tasks_of crowded) 8 ≡ 18
+weighted_shortening_of_crowded = refl
 
-pub last_of_crowded : last_point (shares_of crowded) ≡ 8
+pub last_of_crowded : last_point (charged_tasks_of crowded) ≡ 8
 last_of_crowded = refl
 
-pub points_of_crowded : points_to (shares_of crowded) 8 ≡ 3
+pub points_of_crowded : points_up_to (charged_tasks_of crowded) 8 ≡ 3
 points_of_crowded = refl
 
 pub crowded_fails : verdict_of crowded ≡ No 3 4
@@ -62,20 +62,20 @@ one_tick_more = refl
 abbrev roomy : System
 roomy = system (task 20 6 (Op 0 (Add 1) ∷ []) ∷ task 20 20 (Work 2 ∷ Op 0 (Add 1) ∷ []) ∷ [])
 
-pub slack_of_roomy : slack_of (shares_of roomy) 20 ≡ 56
-slack_of_roomy = refl
+pub weighted_shortening_of_roomy : weighted_shortening_of (charged_tasks_of roomy) 20 ≡ 56
+weighted_shortening_of_roomy = refl
 
-pub last_of_roomy : last_point (shares_of roomy) ≡ 5
+pub last_of_roomy : last_point (charged_tasks_of roomy) ≡ 5
 last_of_roomy = refl
 
-pub points_of_roomy : points_to (shares_of roomy) 5 ≡ 0
+pub points_of_roomy : points_up_to (charged_tasks_of roomy) 5 ≡ 0
 points_of_roomy = refl
 
 pub roomy_fits : verdict_of roomy ≡ Yes
 roomy_fits = refl
 
 -- no tick is spare, so that the whole cycle is looked at
-pub nothing_spare : last_point (shares_of (system (task 2 1 (Work 1 ∷ []) ∷ task 4 4 (Work 2 ∷ []) ∷ []))) ≡ 4
+pub nothing_spare : last_point (charged_tasks_of (system (task 2 1 (Work 1 ∷ []) ∷ task 4 4 (Work 2 ∷ []) ∷ []))) ≡ 4
 nothing_spare = refl
 
 pub just_fits : verdict_of (system (task 2 1 (Work 1 ∷ []) ∷ task 4 4 (Work 2 ∷ []) ∷ [])) ≡ Yes

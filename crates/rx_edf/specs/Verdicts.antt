@@ -2,30 +2,30 @@
 use Rattle.std.specs.Prelude.{ℕ, ◌-◌, ◌/◌, ◌^◌, ◌==◌, nat_le, nat_lt, min, Bool, if◌then◌else◌, List, Option, Some, None}
 use Rattle.rx_set.specs.System.{System}
 use Rattle.rx_set.specs.Admission.{first_to, due_need}
-use Rattle.rx_edf.specs.declared.shares.Share.{Share}
+use Rattle.rx_edf.specs.declared.charged_tasks.ChargedTask.{ChargedTask}
 use Rattle.rx_edf.specs.declared.verdicts.EdfVerdict.{EdfVerdict}
 use Rattle.rx_edf.specs.declared.verdicts.EdfVerdict.TheVariants.{Yes, No, Wide, Long}
-use Rattle.rx_edf.specs.Shares.{shares_of, cycle_of, work_of, shortening_of, slack_of, points_to}
+use Rattle.rx_edf.specs.ChargedTasks.{charged_tasks_of, cycle_of, work_of, shortening_of, weighted_shortening_of, points_up_to}
 
 -- the last time that has to be looked at: if any time fails, one of at most this does
 abbrev pub last_by : ℕ → ℕ → ℕ → ℕ
-last_by whole spare slack = if spare == 0 then whole else min whole ((slack - 1) / spare)
+last_by whole spare weighted = if spare == 0 then whole else min whole ((weighted - 1) / spare)
 
-abbrev pub last_point : List Share → ℕ
-last_point shares = last_by (cycle_of shares) (cycle_of shares - work_of shares (cycle_of shares)) (slack_of shares (cycle_of shares))
+abbrev pub last_point : List ChargedTask → ℕ
+last_point charged = last_by (cycle_of charged) (cycle_of charged - work_of charged (cycle_of charged)) (weighted_shortening_of charged (cycle_of charged))
 
 -- of a system: its cycle, the work in it, the last time that has to be looked at, and how many jobs are due up to it
 abbrev pub cycle : System → ℕ
-cycle system = cycle_of (shares_of system)
+cycle system = cycle_of (charged_tasks_of system)
 
 abbrev pub work : System → ℕ
-work system = work_of (shares_of system) (cycle system)
+work system = work_of (charged_tasks_of system) (cycle system)
 
 abbrev pub last_time : System → ℕ
-last_time system = last_point (shares_of system)
+last_time system = last_point (charged_tasks_of system)
 
 abbrev pub points : System → ℕ
-points system = points_to (shares_of system) (last_time system)
+points system = points_up_to (charged_tasks_of system) (last_time system)
 
 -- more is due in t ticks than fits into them
 abbrev pub fails : System → ℕ → Bool
@@ -38,15 +38,15 @@ told system (Some t) = No t (due_need system t)
 -- the least time that fails, of those that have to be looked at, unless there are too many
 abbrev pub verdict_to : System → ℕ → EdfVerdict
 verdict_to system last =
-    if nat_lt 1000000 (points_to (shares_of system) last) then Long (points_to (shares_of system) last)
+    if nat_lt 1000000 (points_up_to (charged_tasks_of system) last) then Long (points_up_to (charged_tasks_of system) last)
     else told system (first_to (fails system) last)
 
 -- the answer in a cycle: more work than ticks, no deadline that is short, or what the times in it say
 abbrev pub verdict_in : System → ℕ → EdfVerdict
 verdict_in system whole =
-    if nat_lt whole (work_of (shares_of system) whole) then No whole (work_of (shares_of system) whole)
-    else if shortening_of (shares_of system) == 0 then Yes
-    else verdict_to system (last_point (shares_of system))
+    if nat_lt whole (work_of (charged_tasks_of system) whole) then No whole (work_of (charged_tasks_of system) whole)
+    else if shortening_of (charged_tasks_of system) == 0 then Yes
+    else verdict_to system (last_point (charged_tasks_of system))
 
 abbrev pub verdict_of : System → EdfVerdict
 verdict_of system = if nat_le (2 ^ 96) (cycle system) then Wide else verdict_in system (cycle system)

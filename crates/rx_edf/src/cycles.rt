@@ -1,9 +1,9 @@
 // The least common multiple of the periods.
 ghost use Rattle.std.specs.Prelude.{◌≡◌, ◌≤◌, ◌<◌, ◌^◌, IfSome, IfNone};
 ghost use Rattle.std.specs.Int.{IsGcd};
-ghost use Rattle.rx_edf.specs.Shares.{AreShares, common, cycle_of as cycle_in};
+ghost use Rattle.rx_edf.specs.ChargedTasks.{AreChargedTasks, common, cycle_of as cycle_in};
 
-use crate::shares::Share;
+use crate::charged_tasks::ChargedTask;
 
 /// From here on a cycle is too wide.
 const WIDE: u128 = 1 << 96;
@@ -33,14 +33,14 @@ fn common_of(cycle: u128, period: u64) -> u128
 }
 
 /// The least common multiple of all periods, if it is below 2^96.
-pub fn cycle_of(shares: &[Share]) -> Option<u128>
-    requires { AreShares shares.now }
-    ensures some { IfSome result (λ cycle. (cycle ≡ cycle_in shares.now) × (cycle < 2 ^ 96)) }
-    ensures none { IfNone result (2 ^ 96 ≤ cycle_in shares.now) }
+pub fn cycle_of(charged: &[ChargedTask]) -> Option<u128>
+    requires { AreChargedTasks charged.now }
+    ensures some { IfSome result (λ cycle. (cycle ≡ cycle_in charged.now) × (cycle < 2 ^ 96)) }
+    ensures none { IfNone result (2 ^ 96 ≤ cycle_in charged.now) }
 {
     let mut cycle = 1;
-    for place in 0..shares.len() {
-        cycle = common_of(cycle, shares[place].period);
+    for place in 0..charged.len() {
+        cycle = common_of(cycle, charged[place].period);
         if cycle >= WIDE {
             return None;
         }

@@ -2,9 +2,9 @@
 //! job is charged with one retry that it can cause. The definitions are `specs/Verdicts.antt`.
 #![tactic(auto)]
 
+mod charged_tasks;
 mod cycles;
 pub mod laws;
-mod shares;
 mod sums;
 #[cfg(test)]
 mod tests;

@@ -1,7 +1,0 @@
-use Rattle.std.proofs.Common.{◌≡◌, ◌≤◌, ◌*◌, ◌^◌}
-use Rattle.rx_set.specs.Admission.{total}
-use Rattle.rx_edf.specs.Shares.{slack_of_share, share_at}
-use Rattle.rx_edf.proofs.sums.slack_of.Given as goal
-
-abbrev pub invariant-loop-place : goal.invariant-loop-place
-invariant-loop-place l = record { is : l.sum ≡ total (λ place. slack_of_share l.cycle (share_at l.shares place)) l.place; few : l.sum ≤ l.place * 2 ^ 122 }
