@@ -2,5 +2,5 @@ pub mod Filters
 pub mod Projections
 pub mod Steps
 pub mod Whole
-pub mod Courses
+pub mod MergeStates
 pub mod Samples

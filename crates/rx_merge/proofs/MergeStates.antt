@@ -12,7 +12,7 @@ use Rattle.rx_seq.specs.declared.entries.Entry.{Entry}
 use Rattle.rx_seq.specs.History.{tag_of, calls_of}
 use Rattle.rx_seq.specs.Legal.{entries_of}
 use Rattle.rx_merge.specs.Merged.{lists_of, list_at, count_of, AreOf, next_of, is_ready, ready_of, first_below, first_ready, with_next, merged_to}
-use Rattle.rx_merge.specs.Course.{IsKnown, AreKnown, IsCourse}
+use Rattle.rx_merge.specs.MergeState.{IsKnown, AreKnown, IsMergeState}
 use Rattle.rx_merge.proofs.Steps.{stages, step}
 use Rattle.rx_merge.proofs.Whole.{size, counted}
 
@@ -52,14 +52,14 @@ all_at P (e ∷ es) zero d all h = all.0
 all_at P (e ∷ es) (suc k) d all h = all_at P es k d all.1 (omega arith)
 
 -- a place that was read
-read_place : (lists : List (Vec Entry Global)) (taken : List Entry) (places tags : List ℕ) (ended caller place : ℕ) → IsCourse (lists_of lists) taken places tags ended
+read_place : (lists : List (Vec Entry Global)) (taken : List Entry) (places tags : List ℕ) (ended caller place : ℕ) → IsMergeState (lists_of lists) taken places tags ended
     → caller < length lists → place ≡ get_or places caller place → place ≡ calls_of caller taken
-read_place lists taken places tags ended caller place course h at =
-    at ∙ get_or_default places caller place 0 (omega (arith, length_lists lists, course.callers)) ∙ course.place caller (omega (arith, length_lists lists))
+read_place lists taken places tags ended caller place state h at =
+    at ∙ get_or_default places caller place 0 (omega (arith, length_lists lists, state.callers)) ∙ state.place caller (omega (arith, length_lists lists))
 
 -- an entry that is read is known, and ready if its tag is the next one
 module _ (lists : List (Vec Entry Global)) (taken : List Entry) (places tags : List ℕ) (ended caller : ℕ) (list : Vec Entry Global) (items : List Entry) (place : ℕ) (d : Entry)
-    (known : AreKnown (length tags) (lists_of lists)) (course : IsCourse (lists_of lists) taken places tags ended)
+    (known : AreKnown (length tags) (lists_of lists)) (state : IsMergeState (lists_of lists) taken places tags ended)
     (h : caller < length lists) (is : list ≡ get_or lists caller list) (value : items ≡ list.items) (at : place ≡ get_or places caller place) (within : place < length items) where
   read_list : list_at (lists_of lists) caller ≡ items
   read_list = list_read lists caller list h is ∙ sym value
@@ -71,11 +71,11 @@ module _ (lists : List (Vec Entry Global)) (taken : List Entry) (places tags : L
 
   read_next : next_of (lists_of lists) taken caller ≡ Some (get_or items place d)
   read_next =
-      let stands : place ≡ calls_of caller taken = read_place lists taken places tags ended caller place course h at in
+      let stands : place ≡ calls_of caller taken = read_place lists taken places tags ended caller place state h at in
       rw (read_list, sym stands) (slice_get-get_or items place d within)
 
   read_tag : is_ready taken (get_or items place d) ≡ ((get_or items place d).tag == get_or tags (get_or items place d).object 0 + 1)
-  read_tag = rw (course.tag (get_or items place d).object read_known) refl
+  read_tag = rw (state.tag (get_or items place d).object read_known) refl
 
   pub read_ready : ((get_or items place d).tag == get_or tags (get_or items place d).object 0 + 1) ≡ true → Some (get_or items place d) ≡ ready_of (lists_of lists) taken caller
   read_ready y = sym (rw (read_next, read_tag, y) refl)
@@ -96,30 +96,30 @@ none_below : (entry_at : ℕ → Option Entry) (n : ℕ) → ((k : ℕ) → k < 
 none_below entry_at zero none = refl
 none_below entry_at (suc n) none = rw (none_below entry_at n (λ k h. none k (omega arith)), none n (omega arith)) refl
 
-pub ended_unready : (lists : List (List Entry)) (taken : List Entry) (places tags : List ℕ) (ended : ℕ) → IsCourse lists taken places tags ended → first_below (ready_of lists taken) ended ≡ None
-ended_unready lists taken places tags ended course =
-    none_below (ready_of lists taken) ended (λ caller h. rw (slice_get_past (list_at lists caller) (calls_of caller taken) (course.whole caller h)) refl)
+pub ended_unready : (lists : List (List Entry)) (taken : List Entry) (places tags : List ℕ) (ended : ℕ) → IsMergeState lists taken places tags ended → first_below (ready_of lists taken) ended ≡ None
+ended_unready lists taken places tags ended state =
+    none_below (ready_of lists taken) ended (λ caller h. rw (slice_get_past (list_at lists caller) (calls_of caller taken) (state.whole caller h)) refl)
 
 -- and the next caller may be such a one too
-pub ended_more : (lists : List (Vec Entry Global)) (taken : List Entry) (places tags : List ℕ) (caller : ℕ) (list : Vec Entry Global) (place : ℕ) → IsCourse (lists_of lists) taken places tags caller
-    → caller < length lists → list ≡ get_or lists caller list → place ≡ get_or places caller place → length list.items ≤ place → IsCourse (lists_of lists) taken places tags (caller + 1)
-ended_more lists taken places tags caller list place course h is at past =
-    let stands : place ≡ calls_of caller taken = read_place lists taken places tags caller caller place course h at in
+pub ended_more : (lists : List (Vec Entry Global)) (taken : List Entry) (places tags : List ℕ) (caller : ℕ) (list : Vec Entry Global) (place : ℕ) → IsMergeState (lists_of lists) taken places tags caller
+    → caller < length lists → list ≡ get_or lists caller list → place ≡ get_or places caller place → length list.items ≤ place → IsMergeState (lists_of lists) taken places tags (caller + 1)
+ended_more lists taken places tags caller list place state h is at past =
+    let stands : place ≡ calls_of caller taken = read_place lists taken places tags caller caller place state h at in
     let all : length (list_at (lists_of lists) caller) ≤ calls_of caller taken = rw (list_read lists caller list h is, sym stands) past in
     record {
-      callers = course.callers;
-      place = course.place;
-      tag = course.tag;
+      callers = state.callers;
+      place = state.place;
+      tag = state.tag;
       within = omega (arith, length_lists lists);
       whole = λ c below. elim (cases_lt c caller) [
-        | inl before ↦ course.whole c before
+        | inl before ↦ state.whole c before
         | inr last ↦ let same : caller ≡ c = omega arith in subst (λ n. length (list_at (lists_of lists) n) ≤ calls_of n taken) same all
       ];
     }
 
 -- before an entry is taken
-pub course_before : (lists : List (List Entry)) (objects : ℕ) → IsCourse lists [] (replicate (length lists) 0) (replicate objects 0) 0
-course_before lists objects = record {
+pub state_before : (lists : List (List Entry)) (objects : ℕ) → IsMergeState lists [] (replicate (length lists) 0) (replicate objects 0) 0
+state_before lists objects = record {
   callers = length-replicate {A = ℕ} (length lists) 0;
   place = λ caller h. get_or-replicate (length lists) caller 0 0 h;
   tag = λ object h. get_or-replicate objects object 0 0 (omega (arith, length-replicate {A = ℕ} objects 0));
@@ -147,14 +147,14 @@ tag_more taken tags e o h own at =
       | inr other ↦ get_or-set_other tags e.object o e.tag 0 other ∙ (rw (ne_eqb o e.object other) (omega (arith, at)))
     ]
 
-pub course_more : (lists : List (List Entry)) (taken : List Entry) (places tags : List ℕ) (ended : ℕ) (e : Entry) → IsCourse lists taken places tags ended → e.caller < length lists → e.object < length tags → e.tag ≡ tag_of e.object taken + 1
-    → IsCourse lists (e ∷ taken) (set places e.caller (get_or places e.caller 0 + 1)) (set tags e.object e.tag) ended
-course_more lists taken places tags ended e course caller object tag = record {
-  callers = length-set places e.caller (get_or places e.caller 0 + 1) ∙ course.callers;
-  place = λ c h. place_more taken places e c (omega (arith, course.callers)) (course.place e.caller caller) (course.place c h);
-  tag = λ o h. tag_more taken tags e o object tag (course.tag o (omega (arith, length-set tags e.object e.tag)));
-  within = course.within;
-  whole = λ c h. let all = course.whole c h in omega arith;
+pub state_more : (lists : List (List Entry)) (taken : List Entry) (places tags : List ℕ) (ended : ℕ) (e : Entry) → IsMergeState lists taken places tags ended → e.caller < length lists → e.object < length tags → e.tag ≡ tag_of e.object taken + 1
+    → IsMergeState lists (e ∷ taken) (set places e.caller (get_or places e.caller 0 + 1)) (set tags e.object e.tag) ended
+state_more lists taken places tags ended e state caller object tag = record {
+  callers = length-set places e.caller (get_or places e.caller 0 + 1) ∙ state.callers;
+  place = λ c h. place_more taken places e c (omega (arith, state.callers)) (state.place e.caller caller) (state.place c h);
+  tag = λ o h. tag_more taken tags e o object tag (state.tag o (omega (arith, length-set tags e.object e.tag)));
+  within = state.within;
+  whole = λ c h. let all = state.whole c h in omega arith;
 }
 
 calls_le : (caller : ℕ) (es : List Entry) → calls_of caller es ≤ length es
@@ -203,11 +203,11 @@ module _ (parts : List Part) (objects : ℕ) (lists : List (List Entry)) (histor
   reversed : reverse order ≡ merged_to lists n
   reversed = ap (λ es. reverse es) is ∙ reverse-reverse (merged_to lists n)
 
-  pub course_reversed : (places tags : List ℕ) (ended : ℕ) → IsCourse lists (merged_to lists n) places tags ended → IsCourse lists (reverse order) places tags ended
-  course_reversed places tags ended course = subst (λ taken. IsCourse lists taken places tags ended) (sym reversed) course
+  pub state_reversed : (places tags : List ℕ) (ended : ℕ) → IsMergeState lists (merged_to lists n) places tags ended → IsMergeState lists (reverse order) places tags ended
+  state_reversed places tags ended state = subst (λ taken. IsMergeState lists taken places tags ended) (sym reversed) state
 
-  pub course_merged : (places tags : List ℕ) (ended : ℕ) → IsCourse lists (reverse order) places tags ended → IsCourse lists (merged_to lists n) places tags ended
-  course_merged places tags ended course = subst (λ taken. IsCourse lists taken places tags ended) reversed course
+  pub state_merged : (places tags : List ℕ) (ended : ℕ) → IsMergeState lists (reverse order) places tags ended → IsMergeState lists (merged_to lists n) places tags ended
+  state_merged places tags ended state = subst (λ taken. IsMergeState lists taken places tags ended) reversed state
 
   pub some_ready : IsSome (first_ready lists (reverse order))
   some_ready = rw reversed (let there = next_there parts objects lists history are n h in rw there.1 refl)

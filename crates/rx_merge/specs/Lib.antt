@@ -1,3 +1,3 @@
 pub mod Merged
-pub mod Course
+pub mod MergeState
 pub mod Rows

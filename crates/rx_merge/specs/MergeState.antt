@@ -14,7 +14,7 @@ abbrev pub AreKnown : ℕ → List (List Entry) → Type 0
 AreKnown objects lists = (caller : ℕ) → caller < length lists → AllByRecursion (IsKnown objects) (list_at lists caller)
 
 -- the places and tags are those that the entries taken leave, and of so many first callers all entries are taken
-pub record IsCourse (lists : List (List Entry)) (taken : List Entry) (places tags : List ℕ) (ended : ℕ) : Type 0 where
+pub record IsMergeState (lists : List (List Entry)) (taken : List Entry) (places tags : List ℕ) (ended : ℕ) : Type 0 where
   pub callers : length places ≡ length lists
   pub place : (caller : ℕ) → caller < length lists → slice_index places caller ≡ calls_of caller taken
   pub tag : (object : ℕ) → object < length tags → slice_index tags object ≡ tag_of object taken

@@ -2,8 +2,8 @@
 //! which the caller made them, are merged into one history that has them all.
 #![tactic(auto)]
 
-mod course;
 pub mod laws;
+mod merge_state;
 mod orders;
 
 pub use orders::merge;

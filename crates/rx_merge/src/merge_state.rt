@@ -1,6 +1,6 @@
 // The entries that are taken so far, and what is counted of them.
 ghost use Rattle.rx_merge.specs.Merged.{first_ready, lists_of, ready_of};
-ghost use Rattle.rx_merge.specs.Course.{AreKnown, IsCourse};
+ghost use Rattle.rx_merge.specs.MergeState.{AreKnown, IsMergeState};
 ghost use Rattle.std.specs.Prelude.{◌≡◌, ◌==◌, ◌+◌, ◌<◌, ◌≤◌, [], ◌∷◌, ◌++◌, IfOk, IsSome, Some, length, replicate, reverse, slice_index, slice_set, vec_capacity, vec_len};
 
 use rx_seq::{Entry, NoMemory};
@@ -9,7 +9,7 @@ use std::alloc::Global;
 /// The entries that are taken so far, oldest first, how many of each caller they are, and the tag of each object. All
 /// entries of the first `ended` callers are taken.
 #[derive(Drop)]
-pub(crate) struct Course {
+pub(crate) struct MergeState {
     order: Vec<Entry>,
     places: Vec<usize>,
     tags: Vec<u64>,
@@ -22,12 +22,12 @@ pub(crate) fn begin(
     count: usize,
     callers: usize,
     objects: usize,
-) -> Result<Course, NoMemory>
-    ensures order { IfOk result (λ course. course.order.items ≡ []) }
-    ensures room { IfOk result (λ course. count ≤ vec_capacity course.order) }
-    ensures places { IfOk result (λ course. course.places.items ≡ replicate callers 0) }
-    ensures tags { IfOk result (λ course. course.tags.items ≡ replicate objects 0) }
-    ensures ended { IfOk result (λ course. course.ended ≡ 0) }
+) -> Result<MergeState, NoMemory>
+    ensures order { IfOk result (λ state. state.order.items ≡ []) }
+    ensures room { IfOk result (λ state. count ≤ vec_capacity state.order) }
+    ensures places { IfOk result (λ state. state.places.items ≡ replicate callers 0) }
+    ensures tags { IfOk result (λ state. state.tags.items ≡ replicate objects 0) }
+    ensures ended { IfOk result (λ state. state.ended ≡ 0) }
 {
     let order = match Vec::with_capacity(alloc, count) {
         Ok(order) => order,
@@ -41,7 +41,7 @@ pub(crate) fn begin(
         Ok(tags) => tags,
         Err(_) => return Err(NoMemory),
     };
-    Ok(Course {
+    Ok(MergeState {
         order,
         places,
         tags,
@@ -49,7 +49,7 @@ pub(crate) fn begin(
     })
 }
 
-impl Course {
+impl MergeState {
     /// Whether an entry has the next tag of its object. Its cost is constant.
     fn is_next(&self, entry: &Entry) -> bool
         requires { entry.now.object < length self.now.tags.items }
@@ -62,7 +62,7 @@ impl Course {
     fn ready_entry(&self, lists: &[Vec<Entry>], caller: usize) -> Option<Entry>
         requires some { caller < length lists.now }
         requires known { AreKnown (length self.now.tags.items) (lists_of lists.now) }
-        requires course { IsCourse (lists_of lists.now) (reverse self.now.order.items) self.now.places.items self.now.tags.items self.now.ended }
+        requires state { IsMergeState (lists_of lists.now) (reverse self.now.order.items) self.now.places.items self.now.tags.items self.now.ended }
         ensures { result ≡ ready_of (lists_of lists.now) (reverse self.now.order.items) caller }
     {
         let list = lists[caller].as_slice();
@@ -81,11 +81,11 @@ impl Course {
     /// Raises `ended` past the next callers of which all entries are taken. Its cost grows with the number of callers
     /// that it passes, and is constant where it passes none; none is passed twice.
     pub(crate) fn pass_ended(&mut self, lists: &[Vec<Entry>])
-        requires course { IsCourse (lists_of lists.now) (reverse self.old.order.items) self.old.places.items self.old.tags.items self.old.ended }
+        requires state { IsMergeState (lists_of lists.now) (reverse self.old.order.items) self.old.places.items self.old.tags.items self.old.ended }
         ensures order { self.new.order ≡ self.old.order }
         ensures places { self.new.places ≡ self.old.places }
         ensures tags { self.new.tags ≡ self.old.tags }
-        ensures course { IsCourse (lists_of lists.now) (reverse self.new.order.items) self.new.places.items self.new.tags.items self.new.ended }
+        ensures state { IsMergeState (lists_of lists.now) (reverse self.new.order.items) self.new.places.items self.new.tags.items self.new.ended }
     {
         for caller in self.ended..lists.len() {
             if self.places[caller] < lists[caller].len() {
@@ -99,7 +99,7 @@ impl Course {
     /// from caller `ended` to the one whose entry it finds.
     pub(crate) fn next_entry(&self, lists: &[Vec<Entry>]) -> Entry
         requires known { AreKnown (length self.now.tags.items) (lists_of lists.now) }
-        requires course { IsCourse (lists_of lists.now) (reverse self.now.order.items) self.now.places.items self.now.tags.items self.now.ended }
+        requires state { IsMergeState (lists_of lists.now) (reverse self.now.order.items) self.now.places.items self.now.tags.items self.now.ended }
         requires some { IsSome (first_ready (lists_of lists.now) (reverse self.now.order.items)) }
         ensures { first_ready (lists_of lists.now) (reverse self.now.order.items) ≡ Some result }
     {

@@ -4,7 +4,7 @@ ghost use Rattle.rx_seq.specs.declared.entries.Entry.{Entry as AnEntry};
 ghost use Rattle.rx_seq.specs.declared.kinds.Part.{Part};
 ghost use Rattle.std.specs.Prelude.{◌≡◌, IfOk, IfSome, List, reverse};
 
-use crate::course::{Course, begin};
+use crate::merge_state::{MergeState, begin};
 use rx_seq::{Entry, NoMemory};
 use std::alloc::Global;
 
@@ -33,11 +33,11 @@ pub fn merge(alloc: Global, objects: u32, lists: &[Vec<Entry>]) -> Result<Vec<En
         Some(count) => count,
         None => return Err(NoMemory),
     };
-    let mut course = begin(alloc, count, lists.len(), objects as usize)?;
+    let mut state = begin(alloc, count, lists.len(), objects as usize)?;
     for _ in 0..count {
-        course.pass_ended(lists);
-        let entry = course.next_entry(lists);
-        course.take(entry);
+        state.pass_ended(lists);
+        let entry = state.next_entry(lists);
+        state.take(entry);
     }
-    Ok(course.into_order())
+    Ok(state.into_order())
 }

@@ -2,7 +2,7 @@ use Rattle.std.proofs.Common.{◌≡◌, ◌+◌, take, arith}
 use Rattle.std.specs.Prelude.{sum_by}
 use Rattle.rx_merge.specs.Merged.{lists_of}
 use Rattle.rx_merge.proofs.Whole.{size}
-use Rattle.rx_merge.proofs.Courses.{counted_more}
+use Rattle.rx_merge.proofs.MergeStates.{counted_more}
 use Rattle.rx_merge.proofs.orders.count_entries.Goals as goal
 
 pub loop-list-preserved : goal.loop-list-preserved

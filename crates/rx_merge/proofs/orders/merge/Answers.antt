@@ -4,8 +4,8 @@ use Rattle.std.specs.declared.alloc.Global.{Global}
 use Rattle.std.proofs.lemmas.List.{length-set}
 use Rattle.rx_seq.specs.declared.entries.Entry.{Entry}
 use Rattle.rx_merge.specs.Merged.{lists_of, merged_to}
-use Rattle.rx_merge.specs.Course.{AreKnown}
-use Rattle.rx_merge.proofs.Courses.{are_known, course_merged, some_ready, next_taken, order_length, order_more, course_more}
+use Rattle.rx_merge.specs.MergeState.{AreKnown}
+use Rattle.rx_merge.proofs.MergeStates.{are_known, state_merged, some_ready, next_taken, order_length, order_more, state_more}
 use Rattle.rx_merge.proofs.orders.merge.Goals as goal
 
 pub next_entry-entry-requires-clause-known : goal.next_entry-entry-requires-clause-known
@@ -25,7 +25,7 @@ take-requires-clause-caller c =
     let passed = c.pass_ended.new.self in
     let order = ap (λ (order : Vec Entry Global). order.items) c.pass_ended.ensures.order ∙ c.loop.invariant.order in
     let next = next_taken c.requires.0 c.args.objects (lists_of c.args.lists.now) c.requires.1 c.requires.2 c.loop.counter (omega (arith, c.loop-test.true, c.in-Some.ensures)) passed.order.items order c.next_entry-entry.result c.next_entry-entry.ensures in
-    omega (arith, next.caller, c.pass_ended.ensures.course.callers)
+    omega (arith, next.caller, c.pass_ended.ensures.state.callers)
 
 pub take-requires-clause-object : goal.take-requires-clause-object
 take-requires-clause-object c =
@@ -48,8 +48,8 @@ take-requires-clause-fits c =
     let passed = c.pass_ended.new.self in
     let order = ap (λ (order : Vec Entry Global). order.items) c.pass_ended.ensures.order ∙ c.loop.invariant.order in
     let next = next_taken c.requires.0 c.args.objects (lists_of c.args.lists.now) c.requires.1 c.requires.2 c.loop.counter (omega (arith, c.loop-test.true, c.in-Some.ensures)) passed.order.items order c.next_entry-entry.result c.next_entry-entry.ensures in
-    let course = course_merged c.requires.0 c.args.objects (lists_of c.args.lists.now) c.requires.1 c.requires.2 c.loop.counter (omega (arith, c.loop-test.true, c.in-Some.ensures)) passed.order.items order passed.places.items passed.tags.items passed.ended c.pass_ended.ensures.course in
-    let place = course.place c.next_entry-entry.result.caller next.caller in
+    let state = state_merged c.requires.0 c.args.objects (lists_of c.args.lists.now) c.requires.1 c.requires.2 c.loop.counter (omega (arith, c.loop-test.true, c.in-Some.ensures)) passed.order.items order passed.places.items passed.tags.items passed.ended c.pass_ended.ensures.state in
+    let place = state.place c.next_entry-entry.result.caller next.caller in
     let few = next.few in
     let small = passed.order.small in
     let room = ap (λ (order : Vec Entry Global). vec_capacity order) c.pass_ended.ensures.order in
@@ -63,11 +63,11 @@ loop-preserved c =
     let tags : length passed.tags.items ≡ c.args.objects = ap (λ (tags : Vec ℕ Global). length tags.items) c.pass_ended.ensures.tags ∙ c.loop.invariant.tags in
     let room = ap (λ (order : Vec Entry Global). vec_capacity order) c.pass_ended.ensures.order in
     let known : c.next_entry-entry.result.object < length passed.tags.items = omega (arith, next.object, tags) in
-    let before = course_merged c.requires.0 c.args.objects (lists_of c.args.lists.now) c.requires.1 c.requires.2 c.loop.counter (omega (arith, c.loop-test.true, c.in-Some.ensures)) passed.order.items order passed.places.items passed.tags.items passed.ended c.pass_ended.ensures.course in
-    let course = course_more (lists_of c.args.lists.now) (merged_to (lists_of c.args.lists.now) c.loop.counter) passed.places.items passed.tags.items passed.ended c.next_entry-entry.result before next.caller known next.tag in
+    let before = state_merged c.requires.0 c.args.objects (lists_of c.args.lists.now) c.requires.1 c.requires.2 c.loop.counter (omega (arith, c.loop-test.true, c.in-Some.ensures)) passed.order.items order passed.places.items passed.tags.items passed.ended c.pass_ended.ensures.state in
+    let state = state_more (lists_of c.args.lists.now) (merged_to (lists_of c.args.lists.now) c.loop.counter) passed.places.items passed.tags.items passed.ended c.next_entry-entry.result before next.caller known next.tag in
     record {
       order = c.take.ensures.order ∙ order_more c.requires.0 c.args.objects (lists_of c.args.lists.now) c.requires.1 c.requires.2 c.loop.counter (omega (arith, c.loop-test.true, c.in-Some.ensures)) passed.order.items order c.next_entry-entry.result next;
       room = omega (arith, c.take.ensures.room, c.loop.invariant.room, room);
       tags = ap (λ (ts : List ℕ). length ts) c.take.ensures.tags ∙ length-set passed.tags.items c.next_entry-entry.result.object c.next_entry-entry.result.tag ∙ tags;
-      course = rw (next.longer, c.take.ensures.places, c.take.ensures.tags, c.take.ensures.ended) course;
+      state = rw (next.longer, c.take.ensures.places, c.take.ensures.tags, c.take.ensures.ended) state;
     }

@@ -1,7 +1,7 @@
 use Rattle.std.proofs.Common.{◌≡◌, reverse}
 use Rattle.rx_merge.specs.Merged.{lists_of}
-use Rattle.rx_merge.specs.Course.{IsCourse}
-use Rattle.rx_merge.proofs.course.Course.pass_ended.Given as goal
+use Rattle.rx_merge.specs.MergeState.{IsMergeState}
+use Rattle.rx_merge.proofs.merge_state.MergeState.pass_ended.Given as goal
 
 abbrev pub invariant-loop-caller : goal.invariant-loop-caller
 invariant-loop-caller l = record {
@@ -9,5 +9,5 @@ invariant-loop-caller l = record {
   order : l.self.order ≡ l.fn.self.order;
   places : l.self.places ≡ l.fn.self.places;
   tags : l.self.tags ≡ l.fn.self.tags;
-  course : IsCourse (lists_of l.lists) (reverse l.self.order.items) l.self.places.items l.self.tags.items l.caller;
+  state : IsMergeState (lists_of l.lists) (reverse l.self.order.items) l.self.places.items l.self.tags.items l.caller;
 }
