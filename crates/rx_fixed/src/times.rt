@@ -33,8 +33,9 @@ pub(crate) fn least_of(set: &TaskSet, rows: &[Row], retry: u64, rank: u32) -> Op
 
 /// The least t that serves the task of a rank under fixed priorities, in ticks: t is at most its deadline, and what the
 /// tasks of this rank and of those before it need in t ticks fits into them, where each release of an earlier task
-/// strictly inside makes one retry (Joseph and Pandya, 1986; Audsley et al., 1993; retries after Anderson, Ramamurthy and
-/// Jeffay, 1997). It is `None` exactly where no t serves it.
+/// strictly inside makes one retry (after Anderson, Ramamurthy and Jeffay, 1997). It is `None` exactly where no t serves
+/// it. This is the number that response-time analysis calls the worst-case response time (Joseph and Pandya, 1986), and
+/// it is found as there, by exact iteration from below (Audsley et al., 1993).
 ///
 /// The policy is `Rm` or `Dm`, and the rank is from 1 to the number of tasks. It takes no memory. Its cost is that of
 /// reading each item twice, and then grows with the number of tasks times the number of values that the need takes up to

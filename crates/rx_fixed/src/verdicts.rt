@@ -19,9 +19,9 @@ pub enum Verdict {
     No { rank: u32 },
 }
 
-/// The test for fixed priorities: whether each task is served by some t (Joseph and Pandya, 1986; Audsley et al., 1993;
-/// with one retry for each release that can preempt, after Anderson, Ramamurthy and Jeffay, 1997). `No` tells the least
-/// rank that no t serves.
+/// The test for fixed priorities, which is response-time analysis: whether each task is served by some t (Joseph and
+/// Pandya, 1986; Audsley et al., 1993; with one retry for each release that can preempt, after Anderson, Ramamurthy and
+/// Jeffay, 1997). `No` tells the least rank that no t serves.
 ///
 /// The policy is `Rm` or `Dm`. It takes no memory. Its cost is that of reading each item twice, and then for each rank
 /// grows with the number of tasks times the number of values that the need takes up to the deadline.

@@ -107,8 +107,9 @@ impl Ledger {
         self.events.as_slice()
     }
 
-    /// How many retries there are of attempts whose first slot is `a` or later, and whose last one is before `b`. It
-    /// looks at each event before `b` once, and finds the end of these by halving.
+    /// How many retries there are of attempts whose first slot is `a` or later, and whose last one is before `b`. Each is
+    /// a failed compare-and-exchange of a lock-free operation. It looks at each event before `b` once, and finds the end
+    /// of these by halving.
     pub fn retries(&self, a: u64, b: u64) -> u64
         requires { a ≤ b }
         ensures { result ≡ retries_in any_job a b self.now }
@@ -119,8 +120,8 @@ impl Ledger {
             .count() as u64
     }
 
-    /// How many preemptions there are strictly between `a` and `b`. It finds the events from `a` to
-    /// `b` by halving, and looks at each of these once.
+    /// How many preemptions there are strictly between `a` and `b`. It finds the events from `a` to `b` by halving, and
+    /// looks at each of these once.
     pub fn preemptions(&self, a: u64, b: u64) -> u64
         requires { a ≤ b }
         ensures { result ≡ preemptions_in any_job a b self.now }
@@ -131,8 +132,8 @@ impl Ledger {
             .count() as u64
     }
 
-    /// How many releases there are strictly between `a` and `b`. It finds the events from `a` to
-    /// `b` by halving, and looks at each of these once.
+    /// How many releases there are strictly between `a` and `b`, which the field calls arrivals of jobs. It finds the
+    /// events from `a` to `b` by halving, and looks at each of these once.
     pub fn releases(&self, a: u64, b: u64) -> u64
         requires { a ≤ b }
         ensures { result ≡ releases_in any_job a b self.now }

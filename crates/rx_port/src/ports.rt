@@ -83,7 +83,7 @@ pub trait Port {
     /// is the expected one, each pair of the trade makes the own place with its number the given place; else nothing
     /// changes. The new root and the trade are those of a plan for the words that the attempt read, whose writes were
     /// made; or no version with the expected root has these words, the trade is empty and the new root is any. The
-    /// attempt ends.
+    /// attempt ends. This is a compare-and-exchange (CAS), and the version tag of a root is there against the ABA problem.
     fn decide(
         &mut self,
         seat: &mut Self::Seat,

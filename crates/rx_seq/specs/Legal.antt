@@ -5,7 +5,7 @@ use Rattle.rx_seq.specs.declared.entries.Entry.{Entry}
 use Rattle.rx_seq.specs.Table.{effect}
 use Rattle.rx_seq.specs.History.{part_at, replay, tag_of}
 
--- each entry has the tag that it makes of those before it, and the reply of its call on what they leave
+-- each entry has the tag that it makes of those before it, and the reply of its call on what they leave; linearizability (Herlihy and Wing, 1990) asks for a legal history that also keeps the order of calls in real time, which is not stated here
 abbrev pub IsLegal : List Part → ℕ → List Entry → Type 0
 IsLegal parts first [] = Unit {0}
 IsLegal parts first (entry ∷ before) =

@@ -11,12 +11,12 @@ ghost use Rattle.rx_tick.specs.Schedule.{slots};
 ghost use Rattle.rx_tick.specs.Windows.{CoversSpoiled, IsBusyWindow, IsWindow, charge, demand, due_demand};
 ghost use Rattle.std.specs.Prelude.{ℕ, Bool, [], ◌≡◌, ◌≢◌, ◌≤◌, ◌<◌, ◌+◌, ◌-◌, Some, length, true};
 
-/// A window of a family of jobs, whose keys are below all other keys, begins where none of them is left and lasts as long
-/// as one is. Each slot of it belongs to a job of the family that was released in it, and the window is shorter than the
-/// stated costs of these jobs and the charges of the preemptions among them: that is so with any charges that cover the
-/// retries of the window, or the attempts that are spoiled in it. It holds for each policy (the busy period of the
-/// response time analysis of M. Joseph and P. Pandya, 1986, with the retries that J. H. Anderson, S. Ramamurthy and
-/// K. Jeffay, 1997, charge to preemptions).
+/// A window of a family of jobs, whose keys are below all other keys, begins where none of them is left, which the field
+/// calls no backlog, and lasts as long as one is. Each slot of it belongs to a job of the family that was released in it,
+/// and the window is shorter than the stated costs of these jobs and the charges of the preemptions among them: that is so
+/// with any charges that cover the retries of the window, or the attempts that are spoiled in it. It holds for each policy
+/// (the busy period of the response time analysis of M. Joseph and P. Pandya, 1986, with the retries that J. H. Anderson,
+/// S. Ramamurthy and K. Jeffay, 1997, charge to preemptions).
 pub fn windows_are_short()
     ensures slots { (system : System) (family : Job → Bool) (a b : ℕ) → IsValid system → IsBusyWindow system family a b
         → (n : ℕ) → a ≤ n → n < b → (job : Job) × (who system n ≡ Some job) × (family job ≡ true) × (a ≤ release system job) × (release system job < b) }
@@ -28,7 +28,8 @@ pub fn windows_are_short()
 
 /// Fixed priorities: a valid set that keeps its stated costs, and whose tasks are each served by some number of ticks, has
 /// no miss at any time (the response time test of M. Joseph and P. Pandya, 1986, with one retry for each release that can
-/// preempt).
+/// preempt). What serves a task has room for its stated cost, for the interference of the tasks before it, which is what
+/// their jobs take, and for the retries of both.
 pub fn served_sets_miss_nothing()
     ensures fixed { (system : System) (n : ℕ) → IsValid system → KeepsCosts system → system.policy ≢ Edf → EachIsServed system → misses system (slots system n) ≡ [] }
 {}
