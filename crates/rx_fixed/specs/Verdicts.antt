@@ -5,7 +5,7 @@ use Rattle.rx_set.specs.Admission.{Serves, ranked_task, unserved}
 use Rattle.rx_fixed.specs.declared.verdicts.Verdict.{Verdict}
 use Rattle.rx_fixed.specs.declared.verdicts.Verdict.TheVariants.{Yes, No}
 
--- yes where there is no rank that none serves
+-- yes where no rank is unserved, and else no with the least rank that no t serves
 abbrev pub verdict_by : Option ℕ → Verdict
 verdict_by None = Yes
 verdict_by (Some place) = No place

@@ -6,33 +6,36 @@ use Rattle.rx_seq.specs.declared.calls.Call.{Call}
 use Rattle.rx_seq.specs.declared.entries.Entry.{Entry}
 use Rattle.rx_seq.specs.Table.{start_of, effect}
 
+-- a part that stands where there is no object
 abbrev pub no_part : Part
 no_part = record { kind = Cell; cap = 1 }
 
+-- the part of an object, by its number from 0
 abbrev pub part_at : List Part → ℕ → Part
 part_at parts object = get_or parts object no_part
 
--- whether an entry raises the tag of its object
+-- whether an entry raises the tag of its object: each one does, by one
 abbrev pub is_loud : Entry → Bool
 is_loud entry = true
 
--- the state of an object is the replay of its entries
+-- the state of an object after some entries: its first state, with the effect of each entry's call on it in turn
 abbrev pub replay : List Part → ℕ → List Entry → List ℕ
 replay parts object [] = start_of (part_at parts object)
 replay parts object (entry ∷ before) =
     if object == entry.object then (effect (part_at parts object) (replay parts object before) entry.call).state else replay parts object before
 
--- the tag of an object is the number of its loud entries
+-- the tag of an object: how many entries raised it
 abbrev pub tag_of : ℕ → List Entry → ℕ
 tag_of object [] = 0
 tag_of object (entry ∷ before) = (if (object == entry.object) && is_loud entry then 1 else 0) + tag_of object before
 
--- how many calls of a caller are in the history
+-- how many entries of a caller there are
 abbrev pub calls_of : ℕ → List Entry → ℕ
 calls_of caller [] = 0
 calls_of caller (entry ∷ before) = (if caller == entry.caller then 1 else 0) + calls_of caller before
 
--- the entry of a call that comes after these
+-- the entry of a call that comes after these: the caller's next index, the reply that the replay of the entries before
+-- gives, and the next tag
 abbrev pub entry_after : List Part → List Entry → ℕ → ℕ → Call → Entry
 entry_after parts before caller object call =
     let untagged : Entry = record {

@@ -16,6 +16,6 @@ pub record Belongs (k : ℕ) (numbers : List ℕ) (place : ℕ) : Type 0 where
   pub has_not : has_number k numbers ≡ false
   pub together : with_number k numbers ≡ insert numbers place k
 
--- what leaving a number out does, whatever the capacity
+-- what leaving a number out does to a list, whatever its capacity
 abbrev pub left_out : ℕ → List ℕ → Effect
 left_out k numbers = if has_number k numbers then answers (without_number k numbers) Removed else answers numbers Absent

@@ -16,7 +16,7 @@ use Rattle.rx_seq.specs.History.{part_at}
 abbrev pub IsValue : ℕ → Type 0
 IsValue n = n ≤ most_value
 
--- a cell has one number
+-- a cell has one number, of at most 24 bits
 pub record IsCell (state : List ℕ) : Type 0 where
   pub one : length state ≡ 1
   pub value : slice_index state 0 ≤ most_cell
@@ -26,7 +26,7 @@ pub record IsQueue (cap : ℕ) (state : List ℕ) : Type 0 where
   pub room : length state ≤ cap
   pub values : All IsValue state
 
--- so has a list, whose numbers rise
+-- a list has at most as many numbers as its capacity, and they rise
 pub record IsOrdered (cap : ℕ) (state : List ℕ) : Type 0 where
   pub room : length state ≤ cap
   pub values : All IsValue state
@@ -37,13 +37,15 @@ pub record IsRegisters (cap : ℕ) (state : List ℕ) : Type 0 where
   pub count : length state ≡ cap
   pub values : All IsValue state
 
+-- the numbers are a state of a kind of object, with this capacity
 abbrev pub IsStateBy : Kind → ℕ → List ℕ → Type 0
 IsStateBy Cell cap state = IsCell state
 IsStateBy Queue cap state = IsQueue cap state
 IsStateBy Ordered cap state = IsOrdered cap state
 IsStateBy Registers cap state = IsRegisters cap state
 
--- the numbers are a state of the part
+-- a state of a part: one number of 24 bits for a cell, at most as many numbers as the capacity for a queue, the same in
+-- rising order for a list, exactly as many for registers; each number has at most 32 bits
 abbrev pub IsState : Part → List ℕ → Type 0
 IsState part state = IsStateBy part.kind part.cap state
 

@@ -10,21 +10,21 @@ use Rattle.rx_seq.specs.declared.calls.Call.TheVariants.{Get, Set, Add, Swap, Pu
 use Rattle.rx_seq.specs.declared.replies.Reply.{Reply}
 use Rattle.rx_seq.specs.declared.replies.Reply.TheVariants.{Done, Over, Differs, Full, Empty, Added, Present, Removed, Absent, Yes, No, Short}
 
--- the greatest value of a cell, and the greatest other value
+-- the greatest value of a cell, which has 24 bits, and the greatest other value, which has 32
 abbrev pub most_cell : ℕ
 most_cell = 16777215
 
 abbrev pub most_value : ℕ
 most_value = 4294967295
 
--- the limits of a capacity
+-- a capacity in its limits: 1 for a cell, 1 to 64 for a queue or an ordered list, 1 to 16 for registers
 abbrev pub IsCap : Kind → ℕ → Type 0
 IsCap Cell cap = cap ≡ 1
 IsCap Queue cap = (1 ≤ cap) × (cap ≤ 64)
 IsCap Ordered cap = (1 ≤ cap) × (cap ≤ 64)
 IsCap Registers cap = (1 ≤ cap) × (cap ≤ 16)
 
--- the part is within the limits
+-- a part is a kind of object with a capacity in its limits
 abbrev pub IsPart : Part → Type 0
 IsPart part = IsCap part.kind part.cap
 
@@ -38,10 +38,11 @@ start_by Registers cap = replicate cap 0
 abbrev pub start_of : Part → List ℕ
 start_of part = start_by part.kind part.cap
 
--- whether a call is one of a cell, a queue, a list or registers, with its numbers in range
+-- a number that a queue, a list or a register can have
 abbrev pub is_value : ℕ → Bool
 is_value n = nat_le n most_value
 
+-- whether a call is one of a cell, a queue or a list, with its numbers in range
 abbrev pub fits_cell : Call → Bool
 fits_cell Get = true
 fits_cell (Set v) = nat_le v most_cell
@@ -65,13 +66,15 @@ abbrev pub have_repeat : List ℕ → Bool
 have_repeat [] = false
 have_repeat (n ∷ ns) = list_any (λ m. m == n) ns || have_repeat ns
 
+-- a row of zeros
 abbrev pub is_blank : Row → Bool
 is_blank row = (row.i == 0) && (row.old == 0) && (row.new == 0)
 
+-- the register that a row names
 abbrev pub register_of : Row → ℕ
 register_of row = row.i
 
--- a row names one of so many registers
+-- a row names one of so many registers, and its values are in range
 abbrev pub is_row : ℕ → Row → Bool
 is_row cap row = nat_lt row.i cap && is_value row.old && is_value row.new
 
@@ -81,19 +84,22 @@ are_rows cap count rows =
     nat_le 1 count && nat_le count 4 && list_all (is_row cap) (take count rows)
     && not (have_repeat (map register_of (take count rows))) && list_all is_blank (drop count rows)
 
+-- whether a call is one of so many registers, with its numbers in range
 abbrev pub fits_registers : ℕ → Call → Bool
 fits_registers cap (Read i) = nat_lt i cap
 fits_registers cap (Shift from to n) = nat_lt from cap && nat_lt to cap && not (from == to) && is_value n
 fits_registers cap (Multi count rows) = are_rows cap count rows
 fits_registers cap _ = false
 
+-- whether a call is one of a kind, with its numbers in range for this capacity
 abbrev pub fits_by : Kind → ℕ → Call → Bool
 fits_by Cell cap call = fits_cell call
 fits_by Queue cap call = fits_queue call
 fits_by Ordered cap call = fits_list call
 fits_by Registers cap call = fits_registers cap call
 
--- whether a call fits a part
+-- a call fits a part if it is one of its kind with its numbers in range: values of a cell have at most 24 bits, and
+-- other values at most 32
 abbrev pub fits_part : Part → Call → Bool
 fits_part part call = fits_by part.kind part.cap call
 
@@ -102,6 +108,7 @@ pub record Effect : Type 0 where
   pub state : List ℕ
   pub reply : Reply
 
+-- this state and this reply
 abbrev pub answers : List ℕ → Reply → Effect
 answers state reply = record { state = state; reply = reply }
 
@@ -109,15 +116,16 @@ answers state reply = record { state = state; reply = reply }
 abbrev pub has_number : ℕ → List ℕ → Bool
 has_number k state = list_any (λ n. n == k) state
 
--- the number at its place in the order
+-- the numbers with one more, at its place in the order
 abbrev pub with_number : ℕ → List ℕ → List ℕ
 with_number k [] = k ∷ []
 with_number k (n ∷ ns) = if nat_lt k n then k ∷ n ∷ ns else n ∷ with_number k ns
 
+-- the numbers without one
 abbrev pub without_number : ℕ → List ℕ → List ℕ
 without_number k state = filter (λ n. not (n == k)) state
 
--- the value of the first row's register that is not its old value
+-- the value of the first row's register that is not its old value, if there is one
 abbrev pub first_difference : List ℕ → List Row → Option ℕ
 first_difference state [] = None
 first_difference state (row ∷ rows) =
@@ -128,21 +136,25 @@ abbrev pub with_rows : List ℕ → List Row → List ℕ
 with_rows state [] = state
 with_rows state (row ∷ rows) = with_rows (slice_set state row.i row.new) rows
 
+-- a transaction changes nothing where a register differs from its old value, and else sets them all
 abbrev pub transaction : List ℕ → ℕ → List Row → Option ℕ → Effect
 transaction state count rows (Some v) = answers state (Differs v)
 transaction state count rows None = answers (with_rows state rows) (Done count)
 
+-- a shift moves n from one register to another, unless the first has less, or the sum would be out of range
 abbrev pub shifted : List ℕ → ℕ → ℕ → ℕ → Effect
 shifted state from to n =
     let have = get_or state from 0 in let sum = get_or state to 0 + n in
     if nat_lt have n then answers state (Short have)
     else (if nat_lt most_value sum then answers state Over else answers (slice_set (slice_set state from (have - n)) to sum) (Done sum))
 
+-- the oldest number of a queue is taken, if there is one
 abbrev pub taken : List ℕ → Effect
 taken [] = answers [] Empty
 taken (n ∷ ns) = answers ns (Done n)
 
--- what a call on a state of a part with this capacity does. Only calls that fit have a meaning
+-- what a call does to a state of a part with this capacity: the state after it, and its reply. This is the table of the
+-- sequential objects, a line for each call and case. Only calls that fit have a meaning
 abbrev pub effect_by : ℕ → List ℕ → Call → Effect
 effect_by cap state Get = answers state (Done (get_or state 0 0))
 effect_by cap state (Set v) = answers (v ∷ []) (Done v)

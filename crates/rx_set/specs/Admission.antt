@@ -7,16 +7,18 @@ abbrev pub total : (ℕ → ℕ) → ℕ → ℕ
 total f zero = 0
 total f (suc n) = total f n + f n
 
--- the least number from 1 to n that passes a test
+-- the earlier number, if there is one, and else this one, if it passes
 abbrev pub or_this : Option ℕ → Bool → ℕ → Option ℕ
 or_this (Some earlier) passes n = Some earlier
 or_this None true n = Some n
 or_this None false n = None
 
+-- the least number from 1 to n that passes a test, if one does
 abbrev pub first_to : (ℕ → Bool) → ℕ → Option ℕ
 first_to test zero = None
 first_to test (suc n) = or_this (first_to test n) (test (suc n)) (suc n)
 
+-- a number is not there
 abbrev pub is_none : Option ℕ → Bool
 is_none None = true
 is_none (Some t) = false
@@ -37,7 +39,8 @@ cost_to system place t task = if nat_le (rank system task) place then ceiling t 
 abbrev pub spoils_to : System → ℕ → ℕ → ℕ → ℕ
 spoils_to system place t task = if nat_lt (rank system task) place then ceiling (t - 1) (task_at system task).period else 0
 
--- what the tasks of a rank and of those before it need in t ticks, where each release of the earlier ones makes one retry
+-- what the tasks of a rank and of those before it need in t ticks: their stated costs for each release, and one retry
+-- for each release of the earlier ones strictly inside
 abbrev pub need : System → ℕ → ℕ → ℕ
 need system place t = total (cost_to system place t) (length system.tasks) + retry_cost system * total (spoils_to system place t) (length system.tasks)
 
@@ -47,7 +50,7 @@ pub record Serves (system : System) (task t : ℕ) : Type 0 where
   pub in_time : t ≤ (task_at system task).deadline
   pub fits : need system (rank system task) t ≤ t
 
--- The test for fixed priorities: each task is served by some t.
+-- The test for fixed priorities: each task is served by some t
 abbrev pub EachIsServed : System → Type 0
 EachIsServed system = (task : ℕ) → task < length system.tasks → (t : ℕ) × Serves system task t
 
@@ -55,7 +58,7 @@ EachIsServed system = (task : ℕ) → task < length system.tasks → (t : ℕ) 
 abbrev pub least_time : System → ℕ → Option ℕ
 least_time system place = first_to (λ t. nat_le (need system place t) t) (task_at system (ranked_task system place)).deadline
 
--- the least rank that none serves
+-- the least rank that no t serves
 abbrev pub unserved : System → Option ℕ
 unserved system = first_to (λ place. is_none (least_time system place)) (length system.tasks)
 
@@ -67,10 +70,10 @@ due_jobs t period deadline = (t + period - deadline) / period
 abbrev pub due_cost : System → ℕ → ℕ → ℕ
 due_cost system t task = due_jobs t (task_at system task).period (task_at system task).deadline * (cost system task + retry_cost system)
 
--- what all tasks need so
+-- what all tasks need for the jobs that are released and due in t ticks
 abbrev pub due_need : System → ℕ → ℕ
 due_need system t = total (due_cost system t) (length system.tasks)
 
--- The test for earliest deadlines first: what is released and due in t ticks fits into them, for each t.
+-- The test for earliest deadlines first: for each t, what is released and due in t ticks fits into them
 abbrev pub EachSpanFits : System → Type 0
 EachSpanFits system = (t : ℕ) → 1 ≤ t → due_need system t ≤ t

@@ -1,4 +1,4 @@
--- Worked rows of the admission tests.
+-- Worked rows of the admission tests: needs, least times and what is due.
 use Rattle.std.specs.Prelude.{ℕ, ◌≡◌, refl, List, [], ◌∷◌, codes, Some, None}
 use Rattle.rx_seq.specs.declared.kinds.Kind.{Kind}
 use Rattle.rx_seq.specs.declared.kinds.Kind.TheVariants.{Cell, Queue}

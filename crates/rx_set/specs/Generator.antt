@@ -18,11 +18,11 @@ pub record Drawn (A : Type 0) : Type 0 where
   pub value : A
   pub after : List ℕ
 
--- the state of the generator that is seeded with a number
+-- the state of xoshiro256++ that SplitMix64 makes of a number
 unfoldable pub seeded : ℕ → List ℕ
 seeded number = of_seed (splitmix_seed 32 number)
 
--- the next word modulo m
+-- the next word modulo a limit
 unfoldable pub draw : ℕ → List ℕ → Drawn ℕ
 draw m state = record { value = (plus_plus state).0 % m; after = (plus_plus state).1 }
 
@@ -34,14 +34,15 @@ in_turn thing (suc n) state =
     let last = thing n earlier.after in
     record { value = earlier.value ++ last.value ∷ []; after = last.after }
 
--- the policy: `rm` or `edf`
+-- the policy: rate monotonic, or earliest deadline first
 abbrev pub policy_drawn : List ℕ → Drawn Policy
 policy_drawn state = let coin = draw 2 state in record { value = if coin.value == 0 then Rm else Edf; after = coin.after }
 
--- the objects are always these: c, a cell; q, a queue of 4; l, a list of 8; r, 4 registers
+-- an object of this name, kind and capacity
 abbrev pub object_named : List ℕ → Kind → ℕ → ObjectRow
 object_named text kind cap = record { name = text; part = record { kind = kind; cap = cap } }
 
+-- the objects are always these: c, a cell; q, a queue of 4; l, a list of 8; r, 4 registers
 abbrev pub four_objects : List ObjectRow
 four_objects =
     object_named (codes "c") Cell 1
@@ -60,10 +61,11 @@ with_none item state = record { value = item; after = state }
 abbrev pub work : List ℕ → Drawn Item
 work = with_number 5 (λ n. Work (1 + n))
 
--- a transaction on one register, with its old value and its new one
+-- a row of zeros
 abbrev pub no_change : Row
 no_change = record { i = 0; old = 0; new = 0 }
 
+-- a transaction on one register, with its old value and its new one
 abbrev pub transaction : List ℕ → Drawn Item
 transaction state =
     let register = draw 4 state in
@@ -72,7 +74,7 @@ transaction state =
     let change : Row = record { i = register.value; old = expected.value; new = written.value } in
     record { value = Op 3 (Multi 1 (change ∷ no_change ∷ no_change ∷ no_change ∷ [])); after = written.after }
 
--- the eight ways to draw an item, and an item, which is drawn one of these ways
+-- eight ways to draw an item, of which two are work; an item, which is drawn one of these ways
 abbrev pub ways : List (List ℕ → Drawn Item)
 ways =
     work
@@ -91,7 +93,8 @@ item_drawn state = let way = draw 8 state in get_or ways way.value work way.afte
 abbrev pub name_of : ℕ → List ℕ
 name_of number = codes "t" ++ (48 + number) ∷ []
 
--- the task at a place, from 0: its period, which is its deadline too, its offset, and one to four items
+-- the task at a place, from 0: a period of 20 to 1,000 ticks, which is its deadline too, an offset below 100, and one
+-- to four items
 unfoldable pub task_drawn : ℕ → List ℕ → Drawn TaskRow
 task_drawn place state =
     let span = draw 50 state in

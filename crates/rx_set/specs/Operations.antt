@@ -19,7 +19,7 @@ asked object call = record { object = object; call = call }
 abbrev pub asked_of : Entry → Asked
 asked_of entry = asked entry.object entry.call
 
--- the operations among the items of a body, in order
+-- what an item asks for, which is nothing for work; the operations among the items of a body, in order
 abbrev pub operation_of : Item → List Asked
 operation_of (Work ticks) = []
 operation_of (Op object call) = asked object call ∷ []

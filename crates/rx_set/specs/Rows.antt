@@ -1,4 +1,5 @@
--- Worked rows of names, ranks, times, keys, costs, demands and drawn sets.
+-- Worked rows of names, ranks, times, keys, demands, costs, also of an attempt and of a retry, and of two whole
+-- drawn sets.
 use Rattle.std.specs.Prelude.{ℕ, ◌≡◌, true, false, refl, List, [], ◌∷◌, codes, Some}
 use Rattle.rx_seq.specs.declared.kinds.Kind.TheVariants.{Cell, Queue, Registers, List as Ordered}
 use Rattle.rx_seq.specs.declared.calls.Call.TheVariants.{Get, Add, Put, Take, Insert, Remove, Multi}

@@ -26,10 +26,13 @@ IsWorkItem system task place = (stated : ℕ) × (slice_get (task_at system task
 abbrev pub IsWorkAt : System → Job → ℕ → Type 0
 IsWorkAt system job place = IsWorkItem system job.task place
 
+-- an object has a name, and a part in its limits
 pub record IsObjectRow (row : ObjectRow) : Type 0 where
   pub name : is_name row.name ≡ true
   pub part : IsPart row.part
 
+-- a task has a name, a period of 1 to 1,000,000 ticks, a deadline from 1 to the period, an offset of at most 1,000,000
+-- ticks, and 1 to 64 items
 pub record IsTaskRow (system : System) (row : TaskRow) : Type 0 where
   pub name : is_name row.name ≡ true
   pub period : (1 ≤ row.period) × (row.period ≤ 1000000)
@@ -38,7 +41,7 @@ pub record IsTaskRow (system : System) (row : TaskRow) : Type 0 where
   pub some_items : (1 ≤ length row.items) × (length row.items ≤ 64)
   pub items : (place : ℕ) (item : Item) → slice_get row.items place ≡ Some item → IsItem system item
 
--- a demand row names a work item of a task
+-- a demand row names a work item of a task and one of its jobs, and gives 1 to 1,000,000 ticks
 pub record IsDemandRow (system : System) (row : Demand) : Type 0 where
   pub task : row.task < length system.tasks
   pub job : (1 ≤ row.job) × (row.job ≤ 1000000)
@@ -52,12 +55,14 @@ pub record NameOneItem (a b : Demand) : Type 0 where
   pub job : a.job ≡ b.job
   pub item : a.item ≡ b.item
 
+-- the name of a task, and of an object
 abbrev pub task_name : TaskRow → List ℕ
 task_name row = row.name
 
 abbrev pub object_name : ObjectRow → List ℕ
 object_name row = row.name
 
+-- a demand row that stands where there is none
 abbrev pub no_demand : Demand
 no_demand = record { task = 0; job = 0; item = 0; ticks = 0 }
 
@@ -65,6 +70,9 @@ no_demand = record { task = 0; job = 0; item = 0; ticks = 0 }
 abbrev pub NamesOnce : List Demand → Type 0
 NamesOnce demands = (a b : ℕ) → a < b → b < length demands → ¬ NameOneItem (get_or demands a no_demand) (get_or demands b no_demand)
 
+-- 1 to 32 tasks, at most 16 objects and 1,000 demand rows, each in its limits; names of tasks differ, and so do those
+-- of objects; operations are calls that fit objects that are there; a demand row names a work item, and none is named
+-- twice
 pub record IsValid (system : System) : Type 0 where
   pub some_tasks : (1 ≤ length system.tasks) × (length system.tasks ≤ 32)
   pub few_objects : length system.objects ≤ 16
@@ -76,17 +84,17 @@ pub record IsValid (system : System) : Type 0 where
   pub object_names : has_repeat (map object_name system.objects) ≡ false
   pub one_demand : NamesOnce system.demands
 
--- the set keeps its stated costs: no demand row has more ticks than its item states
+-- a system keeps its stated costs if no demand row has more ticks than its item states
 pub record KeepsCosts (system : System) : Type 0 where
   pub each : (place : ℕ) (row : Demand) (stated : ℕ) → slice_get system.demands place ≡ Some row
       → slice_get (task_at system row.task).items (row.item - 1) ≡ Some (Work stated) → row.ticks ≤ stated
 
--- a job of any number from 1 on
+-- a job of a task that is there, with any number from 1 on
 pub record IsJobOf (system : System) (job : Job) : Type 0 where
   pub task : job.task < length system.tasks
   pub number : 1 ≤ job.number
 
--- a job that keys and times can be asked of
+-- a job that keys and times can be asked of: of a task that is there, with a number from 1 to 2^40
 pub record IsJob (system : System) (job : Job) : Type 0 where
   pub task : job.task < length system.tasks
   pub number : (1 ≤ job.number) × (job.number ≤ 2 ^ 40)
