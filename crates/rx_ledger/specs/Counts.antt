@@ -4,6 +4,7 @@ use Rattle.rx_ledger.specs.declared.events.Event.{Event}
 use Rattle.rx_ledger.specs.declared.events.Event.TheVariants.{Miss, Release, Preempt, Reply, Retry, Finish}
 use Rattle.rx_ledger.specs.declared.totals.Totals.{Totals}
 
+-- the event is one of this kind
 abbrev pub is_miss : Event → Bool
 is_miss (Miss at job) = true
 is_miss _ = false
@@ -28,10 +29,11 @@ abbrev pub is_finish : Event → Bool
 is_finish (Finish at job) = true
 is_finish _ = false
 
+-- totals of nothing
 abbrev pub zeros : Totals
 zeros = record { ticks = 0; idle = 0; released = 0; finished = 0; replies = 0; retries = 0; preempted = 0; missed = 0 }
 
--- one more event
+-- totals with one more event
 abbrev pub counted : Totals → Event → Totals
 counted t (Miss at job) = record t { missed = t.missed + 1 }
 counted t (Release at job) = record t { released = t.released + 1 }
@@ -40,12 +42,12 @@ counted t (Reply at first job item reply tag) = record t { replies = t.replies +
 counted t (Retry at first job item expected found) = record t { retries = t.retries + 1 }
 counted t (Finish at job) = record t { finished = t.finished + 1 }
 
--- one more slot
+-- totals with one more slot, which is busy or idle
 abbrev pub with_slot : Totals → Bool → Totals
 with_slot t true = record t { ticks = t.ticks + 1 }
 with_slot t false = record t { ticks = t.ticks + 1; idle = t.idle + 1 }
 
--- each number is below this
+-- each number is below a limit
 pub record AreBelow (limit : ℕ) (t : Totals) : Type 0 where
   pub ticks : t.ticks < limit
   pub idle : t.idle < limit

@@ -1,4 +1,4 @@
--- Worked totals.
+-- Worked totals, of events of each kind.
 use Rattle.std.specs.Prelude.{◌≡◌, refl, [], ◌∷◌, fold}
 use Rattle.rx_seq.specs.declared.replies.Reply.TheVariants.{Empty}
 use Rattle.rx_set.specs.declared.jobs.Job.{Job}

@@ -14,13 +14,14 @@ use Rattle.rx_shape.specs.Forms.{stock_size, InRange, live, decoded, IsVersion}
 use Rattle.rx_shape.specs.Versions.{HasRead, NotWritten, Plans, IsStale}
 use Rattle.rx_shape.specs.Settled.{IsSettled}
 
--- what an answer of `want` means
+-- what each answer of `want` means: a place in the object's range, where fewer than the capacity and 2 words were read;
+-- settled words; stale words
 abbrev pub Wants : Home → Call → ℕ → List Taken → Want → Type 0
 Wants home call root taken (Read place) = InRange home place × (length taken < home.part.cap + 2)
 Wants home call root taken Ready = IsSettled home call root taken
 Wants home call root taken Stale = IsStale home root taken
 
--- each own number at most once, and none of those already written
+-- each own number is written at most once, and none of those already written
 abbrev pub WritesOnce : ℕ → List Write → List Write → Type 0
 WritesOnce count done [] = Unit {0}
 WritesOnce count done (write ∷ more) = (write.own < count) × NotWritten write.own done × WritesOnce count (done ++ write ∷ []) more
@@ -30,8 +31,9 @@ abbrev pub EachBelow : ℕ → List Pair → Type 0
 EachBelow count [] = Unit {0}
 EachBelow count (pair ∷ pairs) = (pair.own < count) × EachBelow count pairs
 
--- a plan and its reply, for the words taken and the own places. Where the call leaves the state equal, nothing is written or
--- traded, and the new root names the same place
+-- what a shape's plan is: it makes the call of each version that has the words taken, writes under each own number at
+-- most once, trades own places alone, and has the reply of every such version. Where the call leaves the state equal,
+-- nothing is written or traded, and the new root names the same place
 pub record IsPlanned (home : Home) (call : Call) (root : ℕ) (taken : List Taken) (own : List ℕ) (new : ℕ) (writes : List Write) (pairs : List Pair) (reply : Reply) : Type 0 where
   pub plans : Plans home call root taken own writes new pairs
   pub once : WritesOnce (stock_size home.part) [] writes

@@ -9,20 +9,21 @@ use Rattle.rx_shape.specs.declared.homes.Home.{Home}
 use Rattle.rx_shape.specs.Words.{low_of}
 use Rattle.rx_shape.specs.Places.{times, run, read_run}
 
--- inline: the low part of the root is the value. Block: it names the first of places that follow each other, which
--- have the length and the numbers
+-- inline: the low part of the root is the value. Block: it names the first of places that follow each other, which hold
+-- the length and the numbers in order
 pub data Form : Type 0 where
   inline : Form
   block : Form
 
--- the form of each kind
+-- a cell is inline, and any other object is a block
 abbrev pub form_of : Kind → Form
 form_of Cell = inline
 form_of Queue = block
 form_of Ordered = block
 form_of Registers = block
 
--- how many places a version has, and how many a seat owns of the object
+-- a stock: how many places a version has, and how many a seat owns of the object. It is the capacity and 1 for a block,
+-- and none for a cell
 abbrev pub stock_as : Form → ℕ → ℕ
 stock_as inline cap = 0
 stock_as block cap = suc cap
@@ -35,17 +36,18 @@ pub record InRange (home : Home) (place : ℕ) : Type 0 where
   pub from : home.first ≤ place
   pub below : place < home.first + home.count
 
--- the live places
+-- the live places: none for a cell, and else the places of the block that the root names
 abbrev pub live_as : Form → Home → ℕ → List ℕ → List ℕ
 live_as inline home root words = []
 live_as block home root words = run (low_of root) (suc home.part.cap)
 
--- the state
+-- the state: the low part of a cell's root, and else as many numbers after the first place of the block as its length
+-- says
 abbrev pub decoded_as : Form → Home → ℕ → List ℕ → List ℕ
 decoded_as inline home root words = low_of root ∷ []
 decoded_as block home root words = read_run words (low_of root + 1) (slice_index words (low_of root))
 
--- the live words are put together as the form wants
+-- the length of a block is at most the capacity
 abbrev pub IsFormedAs : Form → Home → ℕ → List ℕ → Type 0
 IsFormedAs inline home root words = Unit {0}
 IsFormedAs block home root words = slice_index words (low_of root) ≤ home.part.cap
@@ -63,7 +65,8 @@ first_own home seat = home.first + suc seat * stock_size home.part
 abbrev pub start_own : Home → ℕ → List ℕ
 start_own home seat = run (first_own home seat) (stock_size home.part)
 
--- the four words that depend on the form
+-- by the form of the object: its live places, its state, whether its live words are put together so, and whether some
+-- places are a stock
 unfoldable pub live : Home → ℕ → List ℕ → List ℕ
 live home root words = live_as (form_of home.part.kind) home root words
 
@@ -76,8 +79,8 @@ IsFormed home root words = IsFormedAs (form_of home.part.kind) home root words
 unfoldable pub IsStock : Home → List ℕ → Type 0
 IsStock home places = IsStockAs (form_of home.part.kind) home places
 
--- a root with its live places and their words: these are places of the object without repeats, and the state is one of
--- the part
+-- a root and the words are a version of an object: the live places are places of the object without repeats, and the
+-- state is one of the part
 pub record IsVersion (home : Home) (root : ℕ) (words : List ℕ) : Type 0 where
   pub inside : (place : ℕ) → 0 < times place (live home root words) → InRange home place
   pub once : (place : ℕ) → times place (live home root words) ≤ 1

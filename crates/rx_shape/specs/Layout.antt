@@ -1,4 +1,5 @@
--- The numbering of words: word 0 belongs to no object, then come the roots of the objects, and then their places.
+-- The numbering of words: word 0 belongs to no object, then comes a root word for each object, and then the places
+-- of each: those of the start, and a stock for each seat.
 use Rattle.std.specs.Prelude.{ℕ, ◌≡◌, ◌+◌, ◌*◌, ◌<◌, ◌≤◌, ◌^◌, List, [], ◌∷◌, length, take, get_or, slice_index}
 use Rattle.std.specs.List.{All}
 use Rattle.rx_seq.specs.declared.kinds.Part.{Part}
@@ -13,7 +14,7 @@ pub record Layout : Type 0 where
   pub seats : ℕ
   pub first : ℕ
 
--- the limits
+-- at most 16 parts in their limits, 1 to 64 seats, and a tag of at most 40 bits at the start
 pub record IsLayout (layout : Layout) : Type 0 where
   pub few : length layout.parts ≤ 16
   pub parts : All IsPart layout.parts
@@ -21,7 +22,7 @@ pub record IsLayout (layout : Layout) : Type 0 where
   pub seats : layout.seats ≤ 64
   pub tag : layout.first < 2 ^ 40
 
--- an object has a stock of its own and one for each seat
+-- how many places an object has, a stock of its own and one for each seat; how many all objects have together
 abbrev pub places_of : ℕ → Part → ℕ
 places_of seats part = stock_size part * (seats + 1)
 
@@ -45,6 +46,7 @@ pub record AreEnds (seats : ℕ) (parts : List Part) (ends : List ℕ) : Type 0 
   pub all : length ends ≡ length parts + 1
   pub each : (objects : ℕ) → objects ≤ length parts → get_or ends objects 0 ≡ end_after seats parts objects
 
+-- a place, and 0 for an object that has none
 abbrev pub first_as : Form → ℕ → ℕ
 first_as inline place = 0
 first_as block place = place
@@ -53,11 +55,11 @@ first_as block place = place
 abbrev pub first_place : Layout → ℕ → ℕ
 first_place layout object = first_as (form_of (part_at layout.parts object).kind) (place_after layout object)
 
--- the part of an object and its places
+-- the part of an object and its places, which follow each other
 abbrev pub home : Layout → ℕ → Home
 home layout object =
     record { part = part_at layout.parts object; first = first_place layout object; count = places_of layout.seats (part_at layout.parts object) }
 
--- the root of an object
+-- the root word of an object
 abbrev pub root_of : List ℕ → ℕ → ℕ
 root_of words object = slice_index words (object + 1)

@@ -1,4 +1,5 @@
--- Worked rows of words, of their numbering, and of attempts on blocks.
+-- Worked rows of root words, the numbering of places, the words of the start, what a root and a block stand for,
+-- what is written and traded for a block, and what a walk wants next.
 use Rattle.std.specs.Prelude.{ℕ, ◌≡◌, refl, [], ◌∷◌, replicate}
 use Rattle.rx_seq.specs.declared.kinds.Kind.TheVariants.{Cell, Queue, Registers}
 use Rattle.rx_seq.specs.declared.replies.Reply.TheVariants.{Full}

@@ -23,7 +23,8 @@ abbrev pub Stays : Home → Call → ℕ → List Taken → Reply → Type 0
 Stays home call root taken reply =
     (words : List ℕ) → HasTaken home root taken words → effect home.part (decoded home root words) call ≡ answers (decoded home root words) reply
 
--- the words taken settle the reply, and either they settle the next state or each version that has them keeps its own
+-- the words taken settle the call: they settle its reply, and either they settle the next state or each version that
+-- has them keeps its own
 pub data IsSettled (home : Home) (call : Call) (root : ℕ) (taken : List Taken) : Type 0 where
   answered : (answer : Effect) → Answers home call root taken answer → IsSettled home call root taken
   stayed : (reply : Reply) → Stays home call root taken reply → IsSettled home call root taken

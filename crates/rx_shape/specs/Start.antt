@@ -7,7 +7,7 @@ use Rattle.rx_shape.specs.Words.{pack}
 use Rattle.rx_shape.specs.Forms.{Form, inline, block, form_of}
 use Rattle.rx_shape.specs.Layout.{Layout, first_place, home, words_of}
 
--- the word of a place of the object
+-- the word at a place of the object, at the start
 abbrev pub start_at_as : Form → Home → ℕ → ℕ
 start_at_as inline here place = 0
 start_at_as block here place = if place == here.first then length (start_of here.part) else 0
@@ -15,15 +15,17 @@ start_at_as block here place = if place == here.first then length (start_of here
 abbrev pub start_at : Home → ℕ → ℕ
 start_at here place = start_at_as (form_of here.part.kind) here place
 
+-- a place is one of the object's
 abbrev pub in_range : Home → ℕ → Bool
 in_range here place = nat_le here.first place && nat_lt place (here.first + here.count)
 
--- the word of a place of one of the first objects
+-- the word at a place of one of the first so many objects
 abbrev pub start_place : Layout → ℕ → ℕ → ℕ
 start_place layout place zero = 0
 start_place layout place (suc object) =
     if in_range (home layout object) place then start_at (home layout object) place else start_place layout place object
 
+-- the word of a number, at the start
 abbrev pub start_word : Layout → ℕ → ℕ
 start_word layout word =
     if word == 0 then 0

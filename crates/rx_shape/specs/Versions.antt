@@ -38,13 +38,14 @@ pub record Makes (home : Home) (call : Call) (root : ℕ) (own : List ℕ) (new 
   pub places : (place : ℕ) → times place (live home new words) + times place (traded own pairs) ≡ times place (live home root words) + times place own
   pub stock : IsStock home (traded own pairs)
 
--- whatever version with this root has the words that were read, the new root makes the call of it
+-- a plan for each version with this root that has the words that were read: the new root, whose tag is the next one,
+-- makes the call of it
 pub record Plans (home : Home) (call : Call) (root : ℕ) (reads : List Taken) (own : List ℕ) (writes : List Write) (new : ℕ) (pairs : List Pair) : Type 0 where
   pub tag : tag_of new ≡ tag_of root + 1
   pub works : (words : List ℕ) → IsVersion home root words → HasRead (live home root words) words reads
       → ((place : ℕ) → times place (live home root words) + times place own ≤ 1) → HasWritten words own writes → Makes home call root own new pairs words
 
--- no version with this root has the words that were read
+-- the words that were read are stale: no version with this root has them
 abbrev pub IsStale : Home → ℕ → List Taken → Type 0
 IsStale home root reads = (words : List ℕ) → IsVersion home root words → HasRead (live home root words) words reads → ⊥
 

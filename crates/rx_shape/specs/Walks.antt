@@ -49,7 +49,8 @@ IsWithin count words = 0 < count → count ≤ suc (slice_index words 0)
 abbrev pub HaveNumbers : ℕ → List ℕ → Type 0
 HaveNumbers count words = (n : ℕ) → suc n < count → slice_index words (suc n) ≤ most_value
 
--- the first so many words can stand in a block of the part
+-- the first so many words can stand in a block of the part: a length in its range, numbers of 32 bits, in rising order
+-- for a list
 pub record IsLined (part : Part) (count : ℕ) (words : List ℕ) : Type 0 where
   pub within : IsWithin count words
   pub most : 0 < count → slice_index words 0 ≤ part.cap
@@ -67,7 +68,8 @@ pub record IsWhole (part : Part) (words : List ℕ) : Type 0 where
   pub lined : IsLined part (length words) words
   pub all : length words ≡ suc (slice_index words 0)
 
--- what the step says holds of the words
+-- what a walk's word says of the call: more words are needed, no state has them, the state stays and this is the reply,
+-- or all is read
 pub record IsStep (part : Part) (call : Call) (words : List ℕ) (step : Step) : Type 0 where
   pub waits : step ≡ Open → IsOpen part words
   pub broken : step ≡ Broken → HaveNone part words

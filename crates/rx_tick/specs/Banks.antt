@@ -25,20 +25,22 @@ use Rattle.rx_tick.specs.Laws.{who}
 use Rattle.rx_tick.specs.Sums.{AreSums}
 use Rattle.rx_tick.specs.States.{job, state_at, after_slot, progress_made, progress_of}
 
--- the bank has the system's objects, whose tags start at 0, and a seat for each task, and it stands for the history of the slots
+-- a bank is that of a system after some slots: it has the system's objects, whose tags start at 0, and a seat for each
+-- task, and its words and seats stand for the history of these slots
 pub record IsBankOf (system : System) (past : List Slot) (bank : Whole) : Type 0 where
   pub parts : bank.layout.parts ≡ parts_of system
   pub seats : bank.layout.seats ≡ length system.tasks
   pub first : bank.layout.first ≡ 0
   pub lawful : Lawful bank.layout bank.core.words bank.core.views (history past)
 
--- at most one word is touched in a slot: loaded, stored or exchanged
+-- what a slot may do to the words: nothing, a load, a store or an exchange
 pub data Touch : Type 0 where
   Nothing : Touch
   Load : Touch
   Store : Touch
   Exchange : Touch
 
+-- the counts after it
 abbrev pub touched : Touch → Counts → Counts
 touched Nothing counts = counts
 touched Load counts = one_load counts
@@ -56,7 +58,8 @@ TouchesIn None made touch = touch ≡ Nothing
 TouchesIn (Some (Work ticks)) made touch = touch ≡ Nothing
 TouchesIn (Some (Op object call)) made touch = TouchesAfter made touch
 
--- what a slot that comes after the past may touch: the last tick of an attempt exchanges, and a slot that belongs to no attempt touches nothing
+-- which of these a slot does that comes after the past: an idle slot and a tick of work touch nothing; the first tick
+-- of an attempt loads, the last exchanges, and those in between load, store or do neither
 abbrev pub MayTouch : System → List Slot → Slot → Touch → Type 0
 MayTouch system past Idle touch = touch ≡ Nothing
 MayTouch system past (Busy mine) touch = TouchesIn (item_at system mine (progress system mine past).complete) (progress system mine past).made touch
@@ -81,7 +84,7 @@ pub record SwingsRoot (slot : Slot) (old now : Core) : Type 0 where
   pub root : ℕ
   pub words : now.words ≡ slice_set old.words (object + 1) root
 
--- what the words are after a slot: a store changes one, and an exchange one at most
+-- the words after a slot: at most the one that is stored or exchanged has changed
 abbrev pub WordsAfter : Slot → Touch → Core → Core → Type 0
 WordsAfter slot Nothing old now = now.words ≡ old.words
 WordsAfter slot Load old now = now.words ≡ old.words
@@ -92,7 +95,8 @@ WordsAfter slot Exchange old now = SwingsRoot slot old now
 abbrev pub KeepsOthers : Slot → Core → Core → Type 0
 KeepsOthers slot old now = (seat : ℕ) → ((mine : Job) → job_in slot ≡ Some mine → seat ≢ mine.task) → view_at now seat ≡ view_at old seat
 
--- what a slot makes of the bank: its counts rise by what it touches, nothing else changes in the words and in the seats, and where it touches nothing, nothing changes at all
+-- what a slot makes of a bank: the counts rise by what the slot does, which is one that it may; the words change by
+-- that alone, and no seat of another task; where nothing is touched, nothing changes at all
 pub record Touches (system : System) (past : List Slot) (slot : Slot) (old now : Whole) : Type 0 where
   pub touch : Touch
   pub may : MayTouch system past slot touch
@@ -119,19 +123,20 @@ pub record IsAtWork (past : List Slot) (objects : Objects) (task made first obje
   pub tag : tag_in step.expected ≡ wins_below object first past
   pub follows : Follows objects.bank.layout (view_at objects.bank.core task) machine
 
--- a task whose started job has an operation in hand has its machine at work
+-- a task whose started job has made ticks of an attempt has its machine at work on it, by as many steps as ticks
 abbrev pub IsInHand : System → List Slot → Objects → ℕ → State → Type 0
 IsInHand system past objects task s =
     1 ≤ s.made → (object : ℕ) (call : Call) → item_at system (job task (s.finished + 1)) s.complete ≡ Some (Op object call) → IsAtWork past objects task s.made s.first object call
 
--- what is kept of the bank and of the machines
+-- what an executive keeps of its bank: it is that of the system after the slots so far, its counts are the sums, there
+-- is room for a machine of each task, and each task's attempt in hand is its machine's
 pub record IsKept (system : System) (past : List Slot) (states : List State) (objects : Objects) : Type 0 where
   pub of : IsBankOf system past objects.bank
   pub sums : AreSums system past objects.bank.core.counts
   pub machines : length objects.machines.items ≡ length system.tasks
   pub hands : (task : ℕ) → task < length system.tasks → IsInHand system past objects task (state_at states task)
 
--- the job that has the next slot, the state of its task, and the objects, before the slot
+-- what holds before a slot of the job that has it, of the state of its task, and of the bank and the machines
 pub record IsTicking (system : System) (now : ℕ) (mine : Job) (s : State) (objects : Objects) : Type 0 where
   pub valid : IsValid system
   pub early : now < 2 ^ 40
@@ -150,7 +155,8 @@ pub record KeepsMachines (task : ℕ) (old new : Objects) : Type 0 where
   pub count : length new.machines.items ≡ length old.machines.items
   pub others : (other : ℕ) → other ≢ task → machine_at new other ≡ machine_at old other
 
--- what its tick did: the progress is the schedule's, and the bank stands for the history with the slot
+-- what the tick makes of them: the state is brought on as the schedule says, the bank stands for the history with this
+-- slot, and the machines of other tasks are as before
 pub record HasTicked (system : System) (now : ℕ) (mine : Job) (s : State) (tick : Made) (old new : Objects) : Type 0 where
   pub made : progress_made tick now (progress_of s) ≡ after system mine now (slot_at system now) (progress_of s)
   pub stands : IsBankOf system (slot_at system now ∷ slots system now) new.bank

@@ -6,6 +6,7 @@ use Rattle.rx_ledger.specs.declared.totals.Totals.{Totals}
 use Rattle.rx_ledger.specs.Counts.{is_miss, is_release, is_preemption, is_reply, is_retry, is_finish}
 use Rattle.rx_tick.specs.Schedule.{Slot, job_in}
 
+-- 1 for a slot of no job, and 0 for a slot of one
 abbrev pub idles : Option Job → ℕ
 idles None = 1
 idles (Some job) = 0
@@ -15,7 +16,7 @@ abbrev pub idle_slots : List Slot → ℕ
 idle_slots [] = 0
 idle_slots (slot ∷ past) = idle_slots past + idles (job_in slot)
 
--- the totals of some slots and events
+-- how many slots there are, how many of them idle, and how many events of each kind
 abbrev pub totals_of : List Slot → List Event → Totals
 totals_of past told = record {
   ticks = length past;

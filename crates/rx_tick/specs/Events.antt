@@ -6,12 +6,12 @@ use Rattle.rx_ledger.specs.declared.events.Event.{Event}
 use Rattle.rx_ledger.specs.declared.events.Event.TheVariants.{Miss, Release, Preempt, Reply, Retry, Finish}
 use Rattle.rx_tick.specs.Schedule.{Slot, Idle, Busy, Decide, job_in, same, progress, is_finished, all_jobs, wins_on, slots}
 
--- how many attempts on the object won so far: its tag
+-- how many attempts on the object won so far, which is its tag
 abbrev pub wins : ℕ → List Slot → ℕ
 wins object [] = 0
 wins object (slot ∷ past) = (if wins_on object slot then 1 else 0) + wins object past
 
--- its tag at the beginning of slot n
+-- how many did before slot n, which is its tag at the beginning of that slot
 abbrev pub wins_below : ℕ → ℕ → List Slot → ℕ
 wins_below object n [] = 0
 wins_below object n (slot ∷ past) = (if wins_on object slot && nat_lt (length past) n then 1 else 0) + wins_below object n past
@@ -20,16 +20,19 @@ wins_below object n (slot ∷ past) = (if wins_on object slot && nat_lt (length 
 abbrev pub jobs_where : System → ℕ → (Job → Bool) → List Job
 jobs_where system n test = filter test (all_jobs system n)
 
--- the deadline is now, and the slots so far do not finish the job
+-- a job is due now, and the slots so far do not finish it
 abbrev pub is_missed : System → List Slot → Job → Bool
 is_missed system past job = (due system job == length past) && not (is_finished system past job)
 
+-- the jobs that are due now and that their slots so far do not finish, in file order of their tasks
 abbrev pub misses : System → List Slot → List Event
 misses system past = map (Miss (length past)) (jobs_where system (length past) (is_missed system past))
 
+-- a job is released at this time
 abbrev pub is_released_at : System → ℕ → Job → Bool
 is_released_at system n job = release system job == n
 
+-- the jobs that are released at this time, in file order of their tasks
 abbrev pub releases : System → ℕ → List Event
 releases system n = map (Release n) (jobs_where system n (is_released_at system n))
 
@@ -47,7 +50,8 @@ preempted system past (Some job) (Some by) = if not (same job by) && not (is_fin
 abbrev pub preemption : System → List Slot → Slot → List Event
 preemption system past slot = preempted system past (last_job past) (job_in slot)
 
--- the end of an attempt: its job's progress before this slot has its first slot and its item
+-- the reply of an attempt that won in this slot, or the retry of one that was lost, with its first slot, its item and
+-- the tags
 abbrev pub decision : System → List Slot → Slot → List Event
 decision system past Idle = []
 decision system past (Busy job) = []
@@ -65,11 +69,12 @@ finished_in system past slot (Some job) = if is_finished system (slot ∷ past) 
 abbrev pub finish : System → List Slot → Slot → List Event
 finish system past slot = finished_in system past slot (job_in slot)
 
--- the events of a slot that comes after the past
+-- the events of a slot, in this order: misses, releases, preemption, reply or retry, finish
 abbrev pub events_of : System → List Slot → Slot → List Event
 events_of system past slot =
     misses system past ++ releases system (length past) ++ preemption system past slot ++ decision system past slot ++ finish system past slot
 
+-- the events of these slots, from the oldest on
 abbrev pub events_in : System → List Slot → List Event
 events_in system [] = []
 events_in system (slot ∷ past) = events_in system past ++ events_of system past slot

@@ -9,7 +9,7 @@ use Rattle.rx_tick.specs.declared.objects.Objects.{Objects}
 use Rattle.rx_tick.specs.declared.states.State.{State}
 use Rattle.rx_tick.specs.declared.turns.Turn.{Turn}
 
--- the system, the number of slots so far, and the bank on which attempts are made
+-- what an executive shows: its system, the number of slots so far, and the bank on which attempts are made
 pub record Moment : Type 0 where
   pub system : System
   pub time : ℕ
@@ -18,6 +18,8 @@ pub record Moment : Type 0 where
 abbrev pub moment : System → ℕ → Whole → Moment
 moment system time bank = record { system = system; time = time; bank = bank }
 
+-- what an executive keeps: at most 2^40 slots, the states of all tasks, what is kept for all of them together, and the
+-- bank and the machines
 pub record IsExecutive (system : System) (time : ℕ) (states : List State) (turn : Turn) (objects : Objects) : Type 0 where
   pub bound : time ≤ 2 ^ 40
   pub all_states : AreStates system (slots system time) time states

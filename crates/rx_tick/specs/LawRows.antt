@@ -1,4 +1,4 @@
--- The words of the laws, on worked schedules.
+-- The words of the laws, on worked schedules, and how many attempts and slots of attempts these have.
 use Rattle.std.specs.Prelude.{◌≡◌, ◌+◌, refl, true, false, [], ◌∷◌, take, Some, None}
 use Rattle.std.proofs.Common.{arith}
 use Rattle.rx_seq.specs.History.{tag_of}

@@ -21,6 +21,7 @@ who system n = job_in (slot_at system n)
 abbrev pub so_far : System → Job → ℕ → Progress
 so_far system job n = progress system job (slots system n)
 
+-- whether its slots before slot n finish a job
 abbrev pub finished_before : System → Job → ℕ → Bool
 finished_before system job n = is_finished system (slots system n) job
 
@@ -35,7 +36,8 @@ pub record IsLeastAt (system : System) (n : ℕ) (job : Job) : Type 0 where
   pub pending : IsPendingAt system n job
   pub least : (other : Job) → IsPendingAt system n other → is_below (key system other) (key system job) ≡ false
 
--- a slot takes the processor from a job: the slot before was the job's, which is unfinished after it, and this one is another job's
+-- a slot takes the processor from a job: the slot before was the job's, which is unfinished after it, and this one is
+-- another job's
 pub record IsPreemption (system : System) (at : ℕ) (job by : Job) : Type 0 where
   pub before : ℕ
   pub follows : at ≡ suc before
@@ -78,7 +80,7 @@ asked_by system None = 0
 asked_by system (Some (Work ticks)) = ticks
 asked_by system (Some (Op object call)) = attempt_cost system object
 
--- those of the items of a job that stand before a place, with the ticks that this job demands
+-- the ticks that the items of a job before a place ask for, with the ticks that this job demands
 abbrev pub asked_up_to : System → Job → ℕ → ℕ
 asked_up_to system job zero = 0
 asked_up_to system job (suc place) = asked_up_to system job place + asked_by system (item_at system job place)
@@ -102,7 +104,8 @@ pub record IsSpoiled (system : System) (object first last : ℕ) : Type 0 where
   pub before : at < last
   pub wins : wins_on object (slot_at system at) ≡ true
 
--- a slot of a job in the midst of an attempt on its item, which has had a tick in each of the job's slots from its first one to this
+-- a slot between the first and the last of an attempt: its job has the same item in hand, and has had as many of its
+-- slots since the first as ticks are counted
 pub record IsAmid (system : System) (job : Job) (first complete at : ℕ) : Type 0 where
   pub busy : slot_at system at ≡ Busy job
   pub item : (so_far system job at).complete ≡ complete
@@ -118,11 +121,12 @@ nth_job task number = record { task = task; number = number }
 abbrev pub operations_up_to : System → ℕ → ℕ → List Asked
 operations_up_to system task n = flat_map (λ job. operations_of (task_of system job).items) (jobs_of task n)
 
--- those that a task's entries made, oldest first
+-- the operations that a task's entries made, oldest first
 abbrev pub operations_in : ℕ → List Entry → List Asked
 operations_in task entries = map asked_of (reverse (entries_of task entries))
 
--- the jobs of a task are finished one after another, and the operations of its entries so far are those of the finished jobs' bodies, and then those of the complete items of the next job
+-- before slot n the jobs of a task up to some number are finished, the next one is not, and later ones have had no
+-- slot; the task's entries made the operations of the finished jobs, and then those of the next job's complete items
 pub record FollowsBodies (system : System) (task n : ℕ) : Type 0 where
   pub finished : ℕ
   pub done : (number : ℕ) → 1 ≤ number → number ≤ finished → finished_before system (nth_job task number) n ≡ true

@@ -1,4 +1,5 @@
--- Worked schedules.
+-- Worked schedules: work alone, overload, a retry, nested preemption on a queue, two releases at once, a tie under
+-- earliest deadline first, and a demand row under rate-monotonic and one under deadline-monotonic priorities.
 use Rattle.std.specs.Prelude.{ℕ, ◌≡◌, refl, List, [], ◌∷◌, codes}
 use Rattle.rx_seq.specs.declared.kinds.Kind.TheVariants.{Cell, Queue}
 use Rattle.rx_seq.specs.declared.calls.Call.TheVariants.{Add, Put, Take}

@@ -15,11 +15,13 @@ pub data Slot : Type 0 where
   Busy : Job → Slot
   Decide : Job → ℕ → Option Entry → Slot
 
+-- the job of a slot, if it has one
 abbrev pub job_in : Slot → Option Job
 job_in Idle = None
 job_in (Busy job) = Some job
 job_in (Decide job object outcome) = Some job
 
+-- two jobs are one: their tasks and their numbers are equal
 abbrev pub same : Job → Job → Bool
 same a b = (a.task == b.task) && (a.number == b.number)
 
@@ -29,10 +31,11 @@ pub record Progress : Type 0 where
   pub made : ℕ
   pub first : ℕ
 
+-- the progress of a job that has had no slot
 abbrev pub start : Progress
 start = record { complete = 0; made = 0; first = 0 }
 
--- the item is complete; the attempt is lost; one more tick of work or of an attempt
+-- the next item is in hand; a lost attempt begins anew; the item has had one more tick
 abbrev pub completed : Progress → Progress
 completed p = record { complete = p.complete + 1; made = 0; first = 0 }
 
@@ -48,7 +51,8 @@ ends_work (Some (Work ticks)) made = made + 1 == ticks
 ends_work (Some (Op object call)) made = false
 ends_work None made = false
 
--- the progress of a job after slot n
+-- the progress of a job after slot n: a tick of work brings the item on, or completes it with its last tick; a lost
+-- attempt begins anew; a won one completes the item; the slots of other jobs change nothing
 abbrev pub after : System → Job → ℕ → Slot → Progress → Progress
 after system job n Idle p = p
 after system job n (Busy other) p =
@@ -56,15 +60,16 @@ after system job n (Busy other) p =
 after system job n (Decide other object None) p = if same other job then lost p else p
 after system job n (Decide other object (Some entry)) p = if same other job then completed p else p
 
+-- how far its slots bring a job, from none on
 abbrev pub progress : System → Job → List Slot → Progress
 progress system job [] = start
 progress system job (slot ∷ past) = after system job (length past) slot (progress system job past)
 
--- all items are complete
+-- a job is finished if all its items are complete
 abbrev pub is_finished : System → List Slot → Job → Bool
 is_finished system past job = nat_le (length (task_of system job).items) (progress system job past).complete
 
--- pending at the slot that comes after the past
+-- a job is pending, at the slot that comes after the past, if it is released and not finished
 abbrev pub is_pending : System → List Slot → Job → Bool
 is_pending system past job = nat_le (release system job) (length past) && not (is_finished system past job)
 
@@ -73,10 +78,11 @@ abbrev pub jobs_of : ℕ → ℕ → List Job
 jobs_of task zero = []
 jobs_of task (suc n) = jobs_of task n ++ record { task = task; number = suc n } ∷ []
 
--- periods are at least 1, so no job with a number above n + 1 is released at n or before
+-- the jobs that can be released at n or before: periods are at least 1, so no job with a number above n + 1 is
 abbrev pub all_jobs : System → ℕ → List Job
 all_jobs system n = flat_map (λ task. jobs_of task (n + 1)) (numbers (length system.tasks))
 
+-- the job of lower key, of the best so far, if there is one, and another
 abbrev pub sooner : System → Option Job → Job → Option Job
 sooner system None job = Some job
 sooner system (Some best) job = if is_below (key system job) (key system best) then Some job else Some best
@@ -85,11 +91,11 @@ sooner system (Some best) job = if is_below (key system job) (key system best) t
 abbrev pub least : System → List Job → Option Job
 least system jobs = fold (sooner system) None jobs
 
--- the pending job of least key has the next slot
+-- the pending job of least key
 abbrev pub chosen : System → List Slot → Option Job
 chosen system past = least system (filter (is_pending system past) (all_jobs system (length past)))
 
--- the entries so far, newest first
+-- the entries of the won attempts, newest first
 abbrev pub noted : Slot → List Entry → List Entry
 noted Idle before = before
 noted (Busy job) before = before
@@ -100,26 +106,27 @@ abbrev pub history : List Slot → List Entry
 history [] = []
 history (slot ∷ past) = noted slot (history past)
 
--- an attempt on the object won in this slot, and raised its tag
+-- an attempt on the object won in this slot, with an entry that raises its tag
 abbrev pub wins_on : ℕ → Slot → Bool
 wins_on object Idle = false
 wins_on object (Busy job) = false
 wins_on object (Decide job other None) = false
 wins_on object (Decide job other (Some entry)) = (object == entry.object) && is_loud entry
 
--- one did after slot first
+-- an attempt on the object won in a slot after this one
 abbrev pub won_after : ℕ → ℕ → List Slot → Bool
 won_after object first [] = false
 won_after object first (slot ∷ past) = (wins_on object slot && nat_lt first (length past)) || won_after object first past
 
--- the operation whose attempt ends with the next tick
+-- the operation whose attempt ends with the next tick, if one does
 abbrev pub decides : System → Option Item → ℕ → Option Asked
 decides system (Some (Op object call)) made =
     if made + 1 == attempt_cost system object then Some (asked object call) else None
 decides system (Some (Work ticks)) made = None
 decides system None made = None
 
--- an attempt wins if none on its object won since its first slot
+-- a tick of a job, which decides the attempt on an operation if it is its last one: it wins where none on its object
+-- won since its first slot, and it is lost where one did
 abbrev pub tick_in : System → List Slot → Job → Progress → Option Asked → Slot
 tick_in system past job p None = Busy job
 tick_in system past job p (Some operation) =
@@ -130,14 +137,16 @@ tick_in system past job p (Some operation) =
 abbrev pub tick_of : System → List Slot → Job → Progress → Slot
 tick_of system past job p = tick_in system past job p (decides system (item_at system job p.complete) p.made)
 
+-- a tick of the job that has the slot, and an idle slot where there is none
 abbrev pub slot_of : System → List Slot → Option Job → Slot
 slot_of system past None = Idle
 slot_of system past (Some job) = tick_of system past job (progress system job past)
 
--- the slot that comes after the past
+-- the slot that comes after the past: idle where no job is pending, and else a tick of the chosen job
 abbrev pub next_slot : System → List Slot → Slot
 next_slot system past = slot_of system past (chosen system past)
 
+-- the slots with the next one
 abbrev pub with_next : System → List Slot → List Slot
 with_next system past = next_slot system past ∷ past
 

@@ -13,12 +13,15 @@ use Rattle.rx_tick.specs.declared.states.Made.{Made}
 use Rattle.rx_tick.specs.declared.states.Made.TheVariants.{On, Ended, Lost}
 use Rattle.rx_tick.specs.declared.turns.Turn.{Turn}
 
+-- a state that stands where there is none
 abbrev pub no_state : State
 no_state = record { released = 0; next = 0; finished = 0; complete = 0; made = 0; first = 0 }
 
+-- the state of a task, by its number from 0
 abbrev pub state_at : List State → ℕ → State
 state_at states task = get_or states task no_state
 
+-- a job of a task, by its number
 abbrev pub job : ℕ → ℕ → Job
 job task number = record { task = task; number = number }
 
@@ -34,6 +37,7 @@ pub record IsState (system : System) (past : List Slot) (time task : ℕ) (s : S
   pub last : 1 ≤ s.released → release system (job task s.released) < time
   pub order : s.finished ≤ s.released
 
+-- the system is valid, and so it is with the state of each task
 pub record AreStates (system : System) (past : List Slot) (time : ℕ) (states : List State) : Type 0 where
   pub valid : IsValid system
   pub count : length states ≡ length system.tasks
@@ -54,6 +58,7 @@ pub record IsOffered (states : List State) (job : Job) : Type 0 where
   pub released : (state_at states job.task).finished < (state_at states job.task).released
   pub number : job.number ≡ (state_at states job.task).finished + 1
 
+-- the progress of the started job that a state keeps
 abbrev pub progress_of : State → Progress
 progress_of s = record { complete = s.complete; made = s.made; first = s.first }
 
@@ -81,6 +86,7 @@ after_slot system now mine slot s = with_progress (length (task_of system mine).
 abbrev pub IsBeforeDue : System → ℕ → ℕ → ℕ → State → Type 0
 IsBeforeDue system time watch task s = s.finished < s.released → time ≤ due system (job task s.released) → watch ≤ due system (job task s.released)
 
+-- so it is for each task
 pub record AreBeforeDue (system : System) (time watch : ℕ) (states : List State) : Type 0 where
   pub each : (task : ℕ) → task < length system.tasks → IsBeforeDue system time watch task (state_at states task)
 

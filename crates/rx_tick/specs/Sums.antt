@@ -48,7 +48,8 @@ abbrev pub decided_slots : List Slot → ℕ
 decided_slots [] = 0
 decided_slots (slot ∷ past) = decided_slots past + decided_in slot
 
--- one exchange for each attempt that is decided, a load at least for each that has a slot, and one event at most for each slot of an attempt
+-- the counts of a bank after some slots: one exchange for each attempt that is decided, a load at least for each that
+-- has a slot, and all together not more than the slots of attempts
 pub record AreSumsIn (decided opened tried : ℕ) (counts : Counts) : Type 0 where
   pub exchanges : counts.exchanges ≡ decided
   pub loads : opened ≤ counts.loads

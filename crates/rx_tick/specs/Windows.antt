@@ -34,7 +34,8 @@ pub record IsBusyWindow (system : System) (family : Job → Bool) (a b : ℕ) : 
   pub none : (job : Job) → family job ≡ true → IsLeft system a job → ⊥
   pub some : (n : ℕ) → a < n → n ≤ b → (job : Job) × (family job ≡ true) × IsLeft system n job
 
--- the charges of tasks cover the retries of a window: each retry of the family, of an attempt that begins and ends in it, costs no more than the charge of the task that made its first preemption
+-- the charges of tasks cover the retries of a window: each retry of the family, of an attempt that begins and ends in
+-- it, costs no more ticks than the charge of the task that made its first preemption
 abbrev pub CoversRetries : System → (Job → Bool) → (ℕ → ℕ) → ℕ → ℕ → Type 0
 CoversRetries system family charges a b = (job by : Job) (n object at : ℕ) → family job ≡ true → n < b → slot_at system n ≡ Decide job object None
     → a ≤ (so_far system job n).first → IsFirstPreemption system (so_far system job n).first at job by → attempt_cost system object ≤ charges by.task
@@ -64,7 +65,7 @@ CoversSpoiled system family charges a b = (job by : Job) (first object at : ℕ)
 abbrev pub is_released_in : System → (Job → Bool) → ℕ → ℕ → Job → Bool
 is_released_in system family a b job = family job && (nat_le a (release system job) && nat_lt (release system job) b)
 
--- the stated costs of these jobs
+-- the stated cost of a job if it is one of these, and the sum over all jobs
 abbrev pub demand_of : System → (Job → Bool) → ℕ → ℕ → Job → ℕ
 demand_of system family a b job = if is_released_in system family a b job then cost system job.task else 0
 
@@ -80,14 +81,15 @@ paid family charges a b (Reply at first job item reply tag) = 0
 paid family charges a b (Retry at first job item expected found) = 0
 paid family charges a b (Finish at job) = 0
 
--- the charges of the preemptions among the family
+-- the charges of all preemptions among the family in the window
 abbrev pub charge : System → (Job → Bool) → (ℕ → ℕ) → ℕ → ℕ → ℕ
 charge system family charges a b = sum_by (paid family charges a b) (events system b)
 
--- the stated cost and the charge of each job that is released at a or after, and due at b or before
+-- a job that is released at a or after, and due at b or before
 abbrev pub is_due_in : System → ℕ → ℕ → Job → Bool
 is_due_in system a b job = nat_le a (release system job) && nat_le (due system job) b
 
+-- the stated cost of a job and the charge of its task, if it is one of these, and the sum over all jobs
 abbrev pub due_of : System → (ℕ → ℕ) → ℕ → ℕ → Job → ℕ
 due_of system charges a b job = if is_due_in system a b job then cost system job.task + charges job.task else 0
 
