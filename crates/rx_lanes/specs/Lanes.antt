@@ -46,7 +46,7 @@ pub record HasMade (board : Board) (script : List Asked) (lane : Lane) : Type 0 
   pub few : length known.mine ≤ length script
   pub all : (map asked_of (reverse known.mine) ≡ script) ⊎ HasSpent board.layout known.seen
 
--- a lane asked for these operations too
+-- a lane asked for more operations: what it had made and these are what it has made now
 pub record Adds (board : Board) (more : List Asked) (before now : Lane) : Type 0 where
   pub ours : IsSeatOf board now.seat
   pub number : now.number ≡ before.number
@@ -55,6 +55,7 @@ pub record Adds (board : Board) (more : List Asked) (before now : Lane) : Type 0
   pub room : vec_capacity now.answers ≡ vec_capacity before.answers
   pub makes : (script : List Asked) → HasMade board script before → HasMade board (script ++ more) now
 
+-- the number, the seat and the answers of a lane
 abbrev pub number_of : Lane → ℕ
 number_of lane = lane.number
 
@@ -74,7 +75,7 @@ pub record HasRun (board : Board) (system : System) (jobs workers : ℕ) (lane :
   pub ours : IsSeatOf board lane.seat
   pub made : HasMade board (lane_script system jobs workers lane.number) lane
 
--- a new lane
+-- a lane with no answers, and room for those of its script
 pub record IsNew (system : System) (jobs workers : ℕ) (lane : Lane) : Type 0 where
   pub none : lane.answers.items ≡ []
   pub made : lane.made ≡ 0

@@ -4,7 +4,7 @@ use Rattle.rx_seq.specs.declared.entries.Entry.{Entry}
 use Rattle.rx_lanes.specs.declared.answers.Answer.{Answer}
 use Rattle.rx_set.specs.Operations.{Asked, asked_of}
 
--- what an entry answered
+-- what an entry answered: its reply and its tag
 abbrev pub answer_of : Entry → Answer
 answer_of entry = record { reply = entry.reply; tag = entry.tag }
 
@@ -17,7 +17,7 @@ pub record IsListOf (caller : ℕ) (script : List Asked) (list : List Entry) : T
   pub calls : map asked_of list ≡ script
   pub own : (place : ℕ) (entry : Entry) → slice_get list place ≡ Some entry → (entry.caller ≡ caller) × (entry.index ≡ place + 1)
 
--- and these answers
+-- the list of a script whose entries have these answers
 pub record IsTold (caller : ℕ) (script : List Asked) (answers : List Answer) (list : List Entry) : Type 0 where
   pub is : IsListOf caller script list
   pub told : map answer_of list ≡ answers

@@ -1,4 +1,6 @@
--- Worked scripts, shares and lists of three tasks on one cell.
+-- Worked rows of three tasks on one cell, one of which only works: scripts, which tasks a lane has and what it
+-- makes, the entries of a caller, the lists in a history and in a merged order, and what a seat's entries and the
+-- lists share on two lanes and on three.
 use Rattle.std.specs.Prelude.{ℕ, ◌≡◌, refl, List, [], ◌∷◌, codes, map}
 use Rattle.rx_seq.specs.declared.kinds.Kind.TheVariants.{Cell}
 use Rattle.rx_seq.specs.declared.calls.Call.{Call}

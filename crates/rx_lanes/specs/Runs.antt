@@ -43,12 +43,13 @@ pub record IsKept (system : System) (jobs workers : ℕ) (history : List Entry) 
   pub calls : map asked_of (entries_by lane history) ≡ lane_script system jobs workers lane
   pub told : map answer_of (entries_by lane history) ≡ answers
 
--- the answers of a lane among those of all
+-- the answers of a lane among those of all, and those of all as plain lists
 abbrev pub answers_at : List (List Answer) → ℕ → List Answer
 answers_at all lane = slice_index_or all lane []
 
 abbrev pub items_of : List (Vec Answer Global) → List (List Answer)
 items_of all = map (λ (answers : Vec Answer Global). answers.items) all
 
+-- so it is for each lane
 abbrev pub AreKept : System → ℕ → ℕ → List Entry → List (List Answer) → Type 0
 AreKept system jobs workers history all = (lane : ℕ) → lane < workers → IsKept system jobs workers history lane (answers_at all lane)

@@ -4,7 +4,8 @@ use Rattle.std.specs.List.{flat_map}
 use Rattle.rx_set.specs.Operations.{Asked, script_of}
 use Rattle.rx_set.specs.System.{System, numbers}
 
--- the tasks of a lane, among the first so many: those whose number has the lane's as its remainder by the number of lanes
+-- a task is a lane's if its number has the lane's as its remainder by the number of lanes; the tasks of a lane among
+-- the first so many
 abbrev pub is_of : ℕ → ℕ → ℕ → Bool
 is_of workers lane task = (task % workers) == lane
 

@@ -16,6 +16,7 @@ use Rattle.rx_machine.specs.declared.any_shape.AnyShape.TheVariants.{Cell, Block
 abbrev pub IsServed : Home → Call → Type 0
 IsServed home call = IsPart home.part × (fits_part home.part call ≡ true) × (home.first + home.count ≤ 16777216)
 
+-- the object and the call of a shape
 abbrev pub any_home : AnyShape → Home
 any_home (Cell shape) = shape.home
 any_home (Block shape) = shape.home
@@ -24,6 +25,7 @@ abbrev pub any_asked : AnyShape → Call
 any_asked (Cell shape) = shape.call
 any_asked (Block shape) = shape.call
 
+-- what a shape wants next, the words that it has taken, and whether its walk over a block, if it is one, takes more
 abbrev pub any_next : AnyShape → ℕ → Want
 any_next (Cell shape) root = Ready
 any_next (Block shape) root = next_want shape.home shape.step (low_of root) (length shape.words.items)

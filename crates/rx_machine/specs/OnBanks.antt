@@ -60,7 +60,8 @@ SaysBy (Won reply tag) layout old now seat machine after =
 SaysBy (Lost expected found) layout old now seat machine after = (found ≡ root_of old.words machine.object) × (now.words ≡ old.words)
 SaysBy (Spent tag) layout old now seat machine after = tag ≡ tag_of (root_of old.words machine.object)
 
--- the bank after a step of a seat, which has this view after it
+-- the bank after a step of a seat, which has this view after it, for every history that the bank stood for: a win adds
+-- the entry of the call, and no other step adds any; each count rises by what the step did
 pub record Stepped (layout : Layout) (old now : Core) (seat : ℕ) (view : View) (machine after : Operation) (step : Step) : Type 0 where
   pub moves : Moves layout old now seat view (λ history. history_by step (entry_for layout history seat machine.object machine.call) history)
   pub counts : CountsBy step machine.progress old.counts now.counts

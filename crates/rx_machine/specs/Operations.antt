@@ -17,8 +17,8 @@ use Rattle.rx_port.specs.declared.views.Attempt.{Attempt}
 use Rattle.rx_port.specs.declared.views.View.{View}
 use Rattle.rx_port.specs.Core.{own_of}
 
--- how many steps an attempt has: a load, as many words as are read and written at most, and the exchange; one more
--- where the object has places
+-- how many steps an attempt has, 2 on a cell, and twice the capacity and 6 on any other object: a load, as many words
+-- as are read and written at most, and the exchange; one more where the object has places
 abbrev pub steps_as : Form → ℕ → ℕ
 steps_as inline cap = 2
 steps_as block cap = 2 * cap + 6
@@ -46,8 +46,8 @@ pub record Progress : Type 0 where
   pub reads : List Taken
   pub writes : List Write
 
--- a call on an object, its open attempt, and what that has shown. It has ended where the call is made or the tags are
--- spent
+-- a machine as clauses see it: a call on an object, its open attempt, and what that has shown. It has ended where the
+-- call is made or the tags are spent
 pub record Operation : Type 0 where
   pub place : Home
   pub object : ℕ
@@ -104,7 +104,8 @@ pub record IsUnderWay (view : View) (machine : Operation) (progress : Progress) 
   pub is_open : view.attempt ≡ Some (attempt_for machine progress)
   pub shown : IsShown machine.place machine.call progress (own_of view machine.object) machine.outlook
 
--- the machine is one of this layout, and its open attempt is that of the seat
+-- a machine is one of this layout, and its open attempt is that of the seat: the seat has it open, what the words have
+-- shown is so, and the first writes of the plan were made
 pub record Follows (layout : Layout) (view : View) (machine : Operation) : Type 0 where
   pub exists : machine.object < length layout.parts
   pub place_is : machine.place ≡ home layout machine.object

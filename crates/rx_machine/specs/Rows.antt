@@ -1,4 +1,4 @@
--- Worked rows of machines.
+-- Worked rows of machines: the steps of an attempt, positions, and what a step adds to a history.
 use Rattle.std.specs.Prelude.{◌≡◌, refl, [], ◌∷◌}
 use Rattle.rx_seq.specs.declared.kinds.Kind.TheVariants.{Cell, Queue, Registers, List as Ordered}
 use Rattle.rx_seq.specs.declared.calls.Call.TheVariants.{Take}

@@ -108,7 +108,7 @@ module _ {P S : Type 0} (layout : Layout) (stands : P → S → Core → Type 0)
     pub outlook : Outlook
     pub next : new ≡ goes_on old (record progress { made = progress.made + 1 }) outlook
 
-  -- what an answer tells
+  -- what each answer of a step tells: one of these
   abbrev pub Tells : Step → Type 0
   Tells Going = Loads layout (stands port seat) (stands port' seat') (view port seat) (view port' seat') old new
       ⊎ (Reads layout (stands port seat) (stands port' seat') (view port seat) (view port' seat') old new

@@ -37,6 +37,8 @@ pub record Stops (old new : Operation) : Type 0 where
   pub first : old.progress ≡ None
   pub new_is : new ≡ over old
 
+-- what each answer of a step tells of the machine: its attempt goes on by one step and fewer are made than an attempt
+-- has, or the step was the last, or the first
 abbrev pub Turns : Operation → Step → Operation → Type 0
 Turns old Going new = Goes old new
 Turns old Idle new = Waits old new

@@ -17,9 +17,11 @@ use Rattle.rx_machine.specs.Operations.{attempt_steps, Intent, Outlook, Unsettle
 use Rattle.rx_machine.specs.Steps.{Tells}
 use Rattle.rx_machine.specs.Turns.{Turns, IsIdleRun, Passes}
 
+-- the plan of a machine, and its reply
 abbrev pub intent_of : Work → Intent
 intent_of work = record { root = work.plan.root; writes = work.plan.writes.items; pairs = work.plan.trade.pairs.items; reply = work.reply }
 
+-- what the words have shown, and which writes were made, by the stage of the attempt
 abbrev pub outlook_by : Stage → Intent → Outlook
 outlook_by Reading plan = Unsettled
 outlook_by Writing plan = Settled plan
@@ -30,6 +32,7 @@ writes_by Reading written writes = []
 writes_by Writing written writes = take written writes
 writes_by Waiting written writes = []
 
+-- the open attempt; the same and what it has shown, where a step was made
 abbrev pub progress_of : Work → Progress
 progress_of work = record {
   made = work.made;
@@ -46,7 +49,7 @@ abbrev pub outlook_if : ℕ → Outlook → Outlook
 outlook_if zero outlook = Unsettled
 outlook_if (suc made) outlook = outlook
 
--- what clauses see of it
+-- what clauses see of a machine
 abbrev pub operation_of : Work → Operation
 operation_of work = record {
   place = work.home;
@@ -102,6 +105,7 @@ pub record IsNextPlace (work : Work) (place : ℕ) : Type 0 where
   pub few : length (any_taken work.shape work.root) < work.home.part.cap + 2
   pub room : any_room work.shape
 
+-- the attempt reads no next place
 abbrev pub HasNoPlace : Work → Type 0
 HasNoPlace work = work.stage ≡ Reading → (place : ℕ) → any_next work.shape work.root ≡ Read place → ⊥
 

@@ -16,13 +16,16 @@ use Rattle.rx_object.specs.declared.calls.Try.TheVariants.{Done, Lost, Spent}
 use Rattle.rx_object.specs.declared.calls.Outcome.{Outcome}
 use Rattle.rx_object.specs.declared.calls.Outcome.TheVariants.{Done as AllDone, Spent as AllSpent}
 
+-- an exchange on an object, with the root that it expected and the one that it found
 abbrev pub exchange : ℕ → ℕ → ℕ → Exchange
 exchange object expected found = record { object = object; expected = expected; found = found }
 
 module _ (layout : Layout) (before now : View) (object : ℕ) where
-  -- the call was made after so many lost attempts. What the seat has seen is legal: it begins with what it had seen, goes
-  -- on with entries of other seats, at least one on the object for each lost attempt, and ends with the entry of this call.
-  -- The root that was loaded did not have the last tag
+  -- the call was made after so many lost attempts. What the seat has seen is legal: it begins with what it had seen,
+  -- goes on with entries of other seats of the table, at least one on the object for each lost attempt, and ends with
+  -- the entry of this call, whose reply and tag are answered. Its own entries are those before and this one. Its begins
+  -- and its exchanges rose by the lost attempts and one, the latest exchange found the root that it expected, and no
+  -- attempt is open. The root that was loaded did not have the last tag
   pub record IsDone (call : Call) (reply : Reply) (tag lost : ℕ) : Type 0 where
     pub known : Known
     pub is : before.known ≡ Some known
@@ -46,8 +49,8 @@ module _ (layout : Layout) (before now : View) (object : ℕ) where
     pub closed : now.attempt ≡ None
     pub number : now.number ≡ before.number
 
-  -- so many attempts were lost: the seat has seen at least one entry of other seats on the object for each, and
-  -- made none
+  -- so many attempts were lost, fewer than 2^40: the seat has seen at least one entry of other seats on the object for
+  -- each, made none, and owns the same places; its begins and its exchanges rose by as many
   pub record HasWaited (lost : ℕ) : Type 0 where
     pub known : Known
     pub is : before.known ≡ Some known
@@ -65,8 +68,8 @@ module _ (layout : Layout) (before now : View) (object : ℕ) where
     pub own : now.own ≡ before.own
     pub number : now.number ≡ before.number
 
-  -- the exchange found another root than the attempt expected, which did not have the last tag, and the seat has its own
-  -- places and entries as before
+  -- an attempt was lost: the latest exchange found another root than it expected, the expected one did not have the
+  -- last tag, no attempt is open, and what the seat has seen is legal
   pub record IsLost (expected found : ℕ) : Type 0 where
     pub waited : HasWaited 1
     pub legal : IsLegal layout.parts layout.first waited.after.seen
@@ -76,8 +79,9 @@ module _ (layout : Layout) (before now : View) (object : ℕ) where
     pub apart : found ≢ expected
     pub closed : now.attempt ≡ None
 
-  -- after so many lost attempts the root that was loaded has the last tag. The seat has its own places and entries as
-  -- before; the attempt that loaded the root is still open, and has neither read nor written
+  -- after so many lost attempts the root that was loaded has the last tag, which is that of the history that the seat
+  -- has seen. Its begins rose by one more than its exchanges; it owns the same places and made no entry. The attempt
+  -- that loaded the root is still open, and has neither read nor written
   pub record IsSpent (call : Call) (tag lost : ℕ) : Type 0 where
     pub known : Known
     pub is : before.known ≡ Some known
@@ -100,13 +104,13 @@ module _ (layout : Layout) (before now : View) (object : ℕ) where
     pub own : now.own ≡ before.own
     pub number : now.number ≡ before.number
 
-  -- what an attempt tells
+  -- what each answer of an attempt tells: one of these
   abbrev pub Tells : Call → Try → Type 0
   Tells call (Done reply tag) = IsDone call reply tag 0
   Tells call (Lost expected found) = IsLost expected found
   Tells call (Spent tag) = IsSpent call tag 0
 
-  -- what a whole call tells
+  -- what each answer of a whole call tells
   abbrev pub TellsAll : Call → Outcome → Type 0
   TellsAll call (AllDone reply tag retries) = IsDone call reply tag retries
   TellsAll call (AllSpent tag) = (lost : ℕ) × IsSpent call tag lost

@@ -25,7 +25,8 @@ pub record Found (layout : Layout) (stood : Core → Type 0) (view : View) (core
   pub alive : view.live ≡ true
   pub here : get_elem? core.views view.number ≡ some view
 
--- begin loads the root, and opens an attempt
+-- begin loads the root, and opens an attempt. Each event tells the words and seats that it found, its answer, and those
+-- that it left
 pub record Begun (layout : Layout) (stood stands : Core → Type 0) (before now : View) (object : ℕ) (call : Call) (root : ℕ) : Type 0 where
   pub core : Core
   pub history : List Entry
@@ -76,7 +77,8 @@ pub record IsDecision (layout : Layout) (view : View) (attempt : Attempt) (new :
   pub is_open : view.attempt ≡ Some attempt
   pub case : IsPlanOf layout view attempt new pairs ⊎ IsHopeless layout attempt pairs
 
--- the conditions of read, write and decide
+-- the conditions of read, write and decide: an open attempt on the object; a number of an own place that the attempt
+-- did not write yet; one of these two cases
 pub record IsOpen (layout : Layout) (view : View) (object : ℕ) : Type 0 where
   pub attempt : Attempt
   pub is : view.attempt ≡ Some attempt
@@ -97,7 +99,7 @@ pub record IsReady (layout : Layout) (view : View) (object expected new : ℕ) (
   pub root : attempt.expected ≡ expected
   pub decision : IsDecision layout view attempt new pairs
 
--- the own places of a seat, as the seat itself knows them
+-- what a seat owns is a stock of each object, of different places in the object's range
 pub record OwnsWell (layout : Layout) (view : View) : Type 0 where
   pub alive : view.live ≡ true
   pub owns : OwnsAll layout view.own

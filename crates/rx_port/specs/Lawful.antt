@@ -41,8 +41,9 @@ unmade here place (suc count) seat = times place (start_own here seat) + unmade 
 abbrev pub placed : Layout → ℕ → ℕ → List View → ℕ
 placed layout object place views = total (holds_of object place) views + unmade (home layout object) place (layout.seats - length views) (length views)
 
--- an open attempt: its call fits an object that is there, its expected tag has been, its root is the present one where
--- the tags are equal, the words that it read then stand where they are live, and what it wrote stands in its own places
+-- what holds of an open attempt: its call fits an object that is there, its expected tag is at most the present one,
+-- its root is the present one where the tags are equal, the words that it read then stand where they are live, and what
+-- it wrote stands in its own places
 pub record IsAttempt (layout : Layout) (words : List ℕ) (history : List Entry) (own : List (List ℕ)) (attempt : Attempt) : Type 0 where
   pub exists : attempt.object < length layout.parts
   pub fits : fits_part (part_at layout.parts attempt.object) attempt.call ≡ true
@@ -67,7 +68,8 @@ pub record IsSpent (view : View) : Type 0 where
   pub joined : view.joined ≡ []
   pub attempt : view.attempt ≡ None
 
--- a seat
+-- what holds of a seat: a live one has its number and owns a stock of each object; one that was joined into another is
+-- spent; its open attempt and what it knows are so
 pub record IsView (layout : Layout) (words : List ℕ) (history : List Entry) (seat : ℕ) (view : View) : Type 0 where
   pub numbered : view.live ≡ true → view.number ≡ seat
   pub owns : view.live ≡ true → OwnsAll layout view.own
@@ -76,7 +78,8 @@ pub record IsView (layout : Layout) (words : List ℕ) (history : List Entry) (s
   pub known : IfSome view.known (λ known. IsKnown history seat known)
   pub both : IfSome view.attempt (λ attempt. IfSome view.known (λ known. tag_of attempt.expected ≤ tag_after layout known.seen attempt.object))
 
--- what a seat keeps of one that was joined into it
+-- what holds of what a seat keeps of one that was joined into it: that one is live no more, what it saw is a beginning
+-- of the history, its entries are those of its number, and a stock of each object was its own
 pub record IsJoined (layout : Layout) (views : List View) (history : List Entry) (joined : Joined) : Type 0 where
   pub made : joined.number < length views
   pub dead : (view : View) → get_elem? views joined.number ≡ some view → view.live ≡ false
@@ -95,7 +98,9 @@ joined_in seat view = total (is_of seat) view.joined
 abbrev pub NoneUnmade : List View → List Entry → Type 0
 NoneUnmade views history = (seat : ℕ) → length views ≤ seat → entries_of seat history ≡ []
 
--- the words and the seats stand for this history. Each seat that was joined into another is kept by one seat, once
+-- the words and seats stand for this history: it is legal, each of its calls fits an object that is there, and each of
+-- its callers is a seat that was made; the roots have its tags and stand for its states; no place is live or owned
+-- twice; each seat that was joined into another is kept by one seat, once
 pub record Lawful (layout : Layout) (words : List ℕ) (views : List View) (history : List Entry) : Type 0 where
   pub legal : IsLegal layout.parts layout.first history
   pub fitting : All (IsFitting layout.parts) history

@@ -18,6 +18,7 @@ use Rattle.rx_port.specs.declared.desks.Desk.{Desk}
 use Rattle.rx_port.specs.Lawful.{Lawful}
 use Rattle.rx_port.specs.Events.{OwnsWell}
 
+-- the own places of a seat, and its open attempt with the words that it read and wrote
 abbrev pub lists : List (Vec ℕ Global) → List (List ℕ)
 lists own = map (λ (places : Vec ℕ Global). places.items) own
 
@@ -28,16 +29,18 @@ attempt_of reads writes opened = record { object = opened.object; call = opened.
 abbrev pub view_of : Desk → View
 view_of desk = record { number = desk.number; next = None; live = true; attempt = option_map (attempt_of desk.reads.items desk.writes.items) desk.open; own = lists desk.own.items; joined = []; known = None }
 
+-- the words, seats and counts of a bank
 abbrev pub plain_core : List ℕ → List Desk → Counts → Core
 plain_core words desks counts = record { words = words; views = map view_of desks; counts = Some counts }
 
+-- a seat that stands where there is none, and the seat of a number
 abbrev pub nobody : View
 nobody = record { number = 0; next = None; live = true; attempt = None; own = []; joined = []; known = None }
 
 abbrev pub view_at : Core → ℕ → View
 view_at core seat = slice_index_or core.views seat nobody
 
--- a bank: what its words stand for, and its words, seats and counts
+-- what clauses see of a bank: what its words stand for, and its words, seats and counts
 pub record Whole : Type 0 where
   pub layout : Layout
   pub core : Core
@@ -55,7 +58,7 @@ pub record IsPlainView (view : View) : Type 0 where
 abbrev pub IsPlain : Core → Type 0
 IsPlain core = (seat : ℕ) (view : View) → get_elem? core.views seat ≡ some view → IsPlainView view
 
--- all seats of the layout are there, and the bank is lawful for some history
+-- a bank has all seats of its layout, none of which keeps histories or was joined, and is lawful for some history
 pub record IsBank (whole : Whole) : Type 0 where
   pub limits : IsLayout whole.layout
   pub many : length whole.core.views ≡ whole.layout.seats
@@ -79,7 +82,7 @@ pub record Moves (layout : Layout) (old now : Core) (seat : ℕ) (after : View) 
   pub moved : view_at now seat ≡ after
   pub others : (other : ℕ) → (other ≡ seat → ⊥) → view_at now other ≡ view_at old other
 
--- so many more events have room in the counts
+-- so many more events have room in the counts, which are then at most 2^63
 abbrev pub HasRoomIn : ℕ → Counts → Type 0
 HasRoomIn n counts = (counts.loads + n ≤ 2 ^ 63) × (counts.stores + n ≤ 2 ^ 63) × (counts.exchanges + n ≤ 2 ^ 63)
 

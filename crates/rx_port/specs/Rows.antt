@@ -1,4 +1,5 @@
--- Worked rows: two seats add 1 to one cell, and the exchange of one of them loses to the other's.
+-- Worked rows of two seats that add 1 to one cell, where the exchange of one loses to the other's: a win, a loss and
+-- a win after it, what a winner and a loser own and know, and an attempt on a queue.
 use Rattle.std.specs.Prelude.{ℕ, ◌≡◌, ◌==◌, if◌then◌else◌, refl, true, false, List, [], ◌∷◌, Some, None}
 use Rattle.rx_seq.specs.declared.kinds.Kind.TheVariants.{Cell, Queue}
 use Rattle.rx_seq.specs.declared.calls.Call.{Call}

@@ -17,10 +17,11 @@ abbrev pub newcomer : Layout → Option Known → ℕ → Option ℕ → View
 newcomer layout known seat next =
     record { number = seat; next = next; live = true; attempt = None; own = starts layout seat 0 layout.parts; joined = []; known = known }
 
--- so many seats that keep no histories
+-- the seats of a bank at the start: so many that keep no histories
 abbrev pub seated : Layout → ℕ → List View
 seated layout zero = []
 seated layout (suc count) = seated layout count ++ newcomer layout None count None ∷ []
 
+-- the counts at the start
 abbrev pub no_counts : Counts
 no_counts = record { loads = 0; stores = 0; exchanges = 0 }

@@ -11,12 +11,12 @@ use Rattle.rx_port.specs.Seats.{newcomer}
 use Rattle.rx_table.specs.Rule.{knows_nothing}
 use Rattle.rx_table.specs.Seats.{Keeps, carries}
 
--- what its words stand for, and which table it is
+-- a table as clauses see it: its layout, and which table it is
 pub record Board : Type 0 where
   pub layout : Layout
   pub table : TableId
 
--- what a seat has open, owns and knows, and whose it is
+-- a seat as clauses see it: what it has open, owns and knows, and which table it is of
 pub record Sitting : Type 0 where
   pub view : View
   pub table : TableId
@@ -32,7 +32,8 @@ pub record AreSeats (board : Board) (seats : List Sitting) : Type 0 where
   pub many : length seats ≡ board.layout.seats
   pub each : (number : ℕ) (seat : Sitting) → get_elem? seats number ≡ some seat → IsSeatOf board seat × (seat.view.number ≡ number)
 
--- the seats of the start: they have the places of the start of their numbers, nothing open, and have seen and made nothing
+-- the seats of the start: the first makes the next one; each has the places of the start of its number, nothing open,
+-- and has seen and made nothing; some seats are these
 abbrev pub next_at : ℕ → ℕ → Option ℕ
 next_at next zero = Some next
 next_at next (suc number) = None

@@ -17,13 +17,15 @@ use Rattle.rx_port.specs.Core.{tag_after}
 use Rattle.rx_port.specs.Lawful.{IsOlder}
 use Rattle.rx_table.specs.Seats.{carries}
 
--- what the words stand for, the last words, and the history of all calls that were completed, newest first
+-- a closed table as clauses see it: its layout, its last words, and the history of all calls that were completed,
+-- newest first
 pub record Ending : Type 0 where
   pub layout : Layout
   pub words : List ℕ
   pub history : List Entry
 
--- the history is legal, the words stand for it, and each entry is of one of the seats
+-- the history is legal, its calls fit, and each of its entries is of one of the seats; the tags and the states of the
+-- words are those of the history
 pub record HasEnded (ending : Ending) : Type 0 where
   pub limits : IsLayout ending.layout
   pub size : length ending.words ≡ words_of ending.layout
@@ -35,19 +37,19 @@ pub record HasEnded (ending : Ending) : Type 0 where
   pub states : (object : ℕ) → object < length ending.layout.parts → decoded (home ending.layout object) (root_of ending.words object) ending.words ≡ replay ending.layout.parts object ending.history
   pub callers : (seat : ℕ) → ending.layout.seats ≤ seat → entries_of seat ending.history ≡ []
 
--- a seat has seen the beginning of the history, and its own entries are those of its number
+-- what a seat has seen is a beginning of the history, and its own entries are those of its number
 pub record HasSeen (history : List Entry) (view : View) : Type 0 where
   pub known : Known
   pub is : view.known ≡ Some known
   pub seen : IsOlder known.seen history
   pub mine : known.mine ≡ entries_of view.number history
 
--- what a seat kept of one that was joined into it
+-- the same of what a seat kept of one that was joined into it
 pub record Carried (history : List Entry) (joined : Joined) : Type 0 where
   pub seen : IsOlder joined.seen history
   pub mine : joined.mine ≡ entries_of joined.number history
 
--- what the last words and the last seat tell
+-- what the last words and the last seat tell of the history: it has ended so, and carries all that were joined
 pub record Closing (layout : Layout) (words : List ℕ) (view : View) (history : List Entry) : Type 0 where
   pub ended : HasEnded (record { layout = layout; words = words; history = history })
   pub carried : (number : ℕ) (joined : Joined) → get_elem? (carries view) number ≡ some joined → Carried history joined

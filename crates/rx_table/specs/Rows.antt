@@ -1,4 +1,5 @@
--- Worked rows: the start of a table of a cell and a queue.
+-- Worked rows of a table of a cell and a queue: the words and the seats of the start, and what a seat holds that
+-- takes another in.
 use Rattle.std.specs.Prelude.{◌≡◌, ◌+◌, ◌*◌, refl, [], ◌∷◌, Some}
 use Rattle.rx_seq.specs.declared.kinds.Kind.TheVariants.{Cell, Queue}
 use Rattle.rx_shape.specs.Layout.{Layout, words_of}

@@ -13,11 +13,12 @@ use Rattle.rx_port.specs.declared.views.Core.{Core}
 use Rattle.rx_port.specs.Lawful.{Lawful}
 use Rattle.rx_port.specs.Seats.{newcomer}
 
--- the first seat makes the others, and knows the number of the next one
+-- a seat that makes others is the first one, and the next number is that of the seats that were made
 pub record IsMaker (views : List View) (seat next : ℕ) : Type 0 where
   pub first : seat ≡ 0
   pub next_is : next ≡ length views
 
+-- so it is of each seat that makes others
 abbrev pub AreMade : List View → Type 0
 AreMade views = (seat : ℕ) (view : View) (next : ℕ) → get_elem? views seat ≡ some view → view.next ≡ Some next → IsMaker views seat next
 
@@ -40,10 +41,11 @@ IsAt view core = get_elem? core.views view.number ≡ some view
 abbrev pub knows_nothing : Known
 knows_nothing = record { seen = []; mine = []; begins = 0; exchanges = 0; latest = None }
 
+-- the first seat of a table, which makes the others
 abbrev pub first_view : Layout → View
 first_view layout = newcomer layout (Some knows_nothing) 0 (Some 1)
 
--- what stands where nothing was picked
+-- a layout and an attempt that stand where none was picked; an attempt, or this one
 abbrev pub no_layout : Layout
 no_layout = record { parts = []; seats = 0; first = 0 }
 

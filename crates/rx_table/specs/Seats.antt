@@ -15,6 +15,7 @@ pub record Keeps (view : View) : Type 0 where
   pub is : view.known ≡ Some known
   pub all_mine : known.mine ≡ entries_of view.number known.seen
 
+-- the number of the seat that a seat makes next
 abbrev pub next_of : Option ℕ → ℕ
 next_of None = 0
 next_of (Some next) = next
@@ -41,7 +42,9 @@ abbrev pub mine_of : Option Known → List Entry
 mine_of None = []
 mine_of (Some known) = known.mine
 
--- joining: the taker keeps what is left of the other and of those that were joined into it, and the other is spent
+-- joining: what is left of a seat that is joined into another, its number, what it has seen, its entries and its
+-- places; the same with those that were joined into it before; the seat that takes it in and keeps all that; a seat
+-- that was joined
 abbrev pub leaves : View → Joined
 leaves view = record { number = view.number; seen = seen_of view.known; mine = mine_of view.known; own = view.own }
 
