@@ -4,7 +4,7 @@ use Rattle.rx_seq.specs.declared.kinds.Kind.{Kind}
 use Rattle.rx_seq.specs.declared.kinds.Kind.TheVariants.{Cell, Queue, Registers, List as Ordered}
 use Rattle.rx_seq.specs.declared.kinds.Part.{Part}
 
--- the capacity of an object of this kind: the greatest one
+-- the greatest capacity of an object of this kind, and the part that has it
 abbrev pub most_of : Kind → ℕ
 most_of Cell = 1
 most_of Queue = 64

@@ -32,7 +32,7 @@ array_or_empty place what row = array_if place what (get_member (key_of what) ro
 unfoldable pub up_to : ℕ → Section → Items → Result Items FileFault
 up_to most section rows = if nat_le (items_len rows) most then Ok rows else Err (TooMany section (items_len rows))
 
--- what is read from some items in order, these before the others. A reader is told what was read before
+-- what is read from the rows of an array in order, where each is told what came before it
 abbrev pub all_after : {X : Type 0} → (List X → Data → Result X FileFault) → List X → Items → Result (List X) FileFault
 all_after read before no_items = Ok before
 all_after read before (item value rest) = do

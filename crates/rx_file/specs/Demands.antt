@@ -50,10 +50,12 @@ is_named earlier demand = list_any (name_one_item demand) earlier
 unfoldable pub unnamed : Place → List Demand → Demand → Result Demand FileFault
 unnamed place earlier demand = if is_named earlier demand then Err (repeat place) else Ok demand
 
+-- the keys of a demand row
 abbrev pub demand_labels : List Label
 demand_labels = label.Task ∷ label.Job ∷ label.Item ∷ label.Ticks ∷ []
 
--- the demand row of a table, among some tasks, which comes after these demand rows
+-- the demand row of a table, key by key, among some tasks, which comes after these demand rows: the task of that name,
+-- the job, an item of its body that is work, the ticks
 unfoldable pub demand_of_table : List TaskRow → Place → List Demand → Members → Result Demand FileFault
 demand_of_table tasks place before row = do
   task ← task_at tasks place row
@@ -67,6 +69,7 @@ demand_of_table tasks place before row = do
 abbrev pub demand_place : List Demand → Place
 demand_place before = record { section = section.Demand; row = length before + 1 }
 
+-- the demand row of a row, which must be a table
 unfoldable pub demand_of_value : List TaskRow → List Demand → Data → Result Demand FileFault
 demand_of_value tasks before value = do
   row ← ok_or (as_table value) (field (demand_place before) label.Whole)

@@ -11,7 +11,8 @@ use Rattle.rx_file.specs.declared.faults.FileFault.TheVariants.{Field, Name, Rep
 use Rattle.rx_file.specs.declared.places.Place.{Place}
 use Rattle.rx_file.specs.Steps.{◌>>=◌}
 
--- the faults of a row
+-- the faults of a row: a key that is missing, or holds another type or must not stand; a value out of range; a name
+-- that stands twice
 abbrev pub field : Place → Label → FileFault
 field place what = Field place.section place.row what
 
@@ -64,6 +65,7 @@ is_taken earlier name = list_any (λ other. bytes_eq other name) earlier
 abbrev pub place_of : List (List ℕ) → List ℕ → Option ℕ
 place_of names name = position (λ other. bytes_eq other name) names
 
+-- a name that no earlier row has
 unfoldable pub is_new : Place → List (List ℕ) → List ℕ → Result ⊤ FileFault
 is_new place earlier name = if is_taken earlier name then Err (repeat place) else Ok tt
 
@@ -99,7 +101,7 @@ no_key place what row = if is_none (get_member (key_of what) row) then Ok tt els
 abbrev pub is_key : List Label → List ℕ → Bool
 is_key labels key = list_any (λ what. bytes_eq (key_of what) key) labels
 
--- each key is
+-- each key of a table is that of one of the labels
 abbrev pub has_only : List Label → Members → Bool
 has_only labels no_members = true
 has_only labels (member key value rest) = is_key labels key && has_only labels rest

@@ -20,7 +20,7 @@ abbrev pub FaultGives : Result System FileFault → FileFault → Type 0
 FaultGives expected NoMemory = Unit {0}
 FaultGives expected fault = expected ≡ Err fault
 
--- the set or the fault that is expected; want of memory is the one free answer
+-- an answer is the set or the fault that is expected, or want of memory, which is free
 abbrev pub SetGives : Result System FileFault → Result System FileFault → Type 0
 SetGives expected (Ok set) = expected ≡ Ok set
 SetGives expected (Err fault) = FaultGives expected fault

@@ -36,7 +36,7 @@ abbrev pub item_of_shape : List ObjectRow → ℕ → ℕ → Shape → Result I
 item_of_shape objects task number (Work ticks) = Ok (item.Work ticks)
 item_of_shape objects task number (On name call) = operation objects task number name call
 
--- an item of a task
+-- the item of a string among some objects: its shape, then the object of that name, then whether the call fits
 unfoldable pub item_of : List ObjectRow → ℕ → ℕ → Data → Result Item FileFault
 item_of objects task number value = do
   text ← ok_or (as_str value) (fault.Item task number)

@@ -29,7 +29,8 @@ kind_at place row = do
   word ← text_at place label.Kind row
   ok_or (kind_of word) (range place label.Kind)
 
--- the capacity of an object of this kind. A cell has room for one number, and no `capacity`
+-- the capacity of an object of a kind, which must stand and be in its range. A cell has room for one number, and no
+-- `capacity`
 unfoldable pub cap_at : Place → Kind → Members → Result ℕ FileFault
 cap_at place Cell row = do
   no_key place label.Capacity row
@@ -38,17 +39,18 @@ cap_at place Queue row = number_at place label.Capacity 1 64 row
 cap_at place Ordered row = number_at place label.Capacity 1 64 row
 cap_at place Registers row = number_at place label.Capacity 1 16 row
 
--- the kind and the capacity
+-- the part of a table, which is its kind and its capacity
 unfoldable pub part_of_table : Place → Members → Result Part FileFault
 part_of_table place row = do
   kind ← kind_at place row
   cap ← cap_at place kind row
   Ok (record { kind = kind; cap = cap })
 
+-- the keys of an object
 abbrev pub object_labels : List Label
 object_labels = label.Name ∷ label.Kind ∷ label.Capacity ∷ []
 
--- the object of a table, which comes after these objects
+-- the object of a table, key by key, which comes after these objects
 unfoldable pub object_of_table : Place → List ObjectRow → Members → Result ObjectRow FileFault
 object_of_table place before row = do
   name ← name_at place row
@@ -61,6 +63,7 @@ object_of_table place before row = do
 abbrev pub object_place : List ObjectRow → Place
 object_place before = record { section = section.Object; row = length before + 1 }
 
+-- the object of a row, which must be a table
 unfoldable pub object_of_value : List ObjectRow → Data → Result ObjectRow FileFault
 object_of_value before value = do
   row ← ok_or (as_table value) (field (object_place before) label.Whole)

@@ -1,4 +1,4 @@
--- Worked files, items and numbers.
+-- Worked files: documents, policies, demand rows, items, numbers and faults.
 use Rattle.std.specs.Prelude.{ℕ, ◌≡◌, [], ◌∷◌, codes, Some, None, Ok, Err, refl}
 use Rattle.rx_set.specs.declared.policies.Policy.TheVariants.{Rm, Dm, Edf}
 use Rattle.rx_seq.specs.declared.kinds.Kind.TheVariants.{Cell, Queue, Registers, List as Ordered}

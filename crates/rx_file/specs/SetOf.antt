@@ -26,10 +26,11 @@ body_at place row = do
   items ← array_at place label.Body row
   if nat_le 1 (items_len items) && nat_le (items_len items) 64 then Ok items else Err (range place label.Body)
 
+-- the keys of a task
 abbrev pub task_labels : List Label
 task_labels = label.Name ∷ label.Period ∷ label.Deadline ∷ label.Offset ∷ label.Body ∷ []
 
--- the task of a table, among some objects, which comes after these tasks
+-- the task of a table, key by key, among some objects, which comes after these tasks
 unfoldable pub task_of_table : List ObjectRow → Place → List TaskRow → Members → Result TaskRow FileFault
 task_of_table objects place before row = do
   name ← name_at place row
@@ -46,6 +47,7 @@ task_of_table objects place before row = do
 abbrev pub task_place : List TaskRow → Place
 task_place before = record { section = section.Task; row = length before + 1 }
 
+-- the task of a row, which must be a table
 unfoldable pub task_of_value : List ObjectRow → List TaskRow → Data → Result TaskRow FileFault
 task_of_value objects before value = do
   row ← ok_or (as_table value) (field (task_place before) label.Whole)
@@ -79,7 +81,7 @@ policy_or_default (Some value) = policy_in value
 unfoldable pub policy_at : Members → Result Policy FileFault
 policy_at file = policy_or_default (get_member (key_of label.Policy) file)
 
--- the array at `object`
+-- the array at `object`, which may be left out, of at most 16 rows
 unfoldable pub object_rows : Members → Result Items FileFault
 object_rows file = do
   rows ← array_or_empty top label.Object file
@@ -89,23 +91,26 @@ object_rows file = do
 unfoldable pub some_rows : Items → Result Items FileFault
 some_rows rows = if items_len rows == 0 then Err (range top label.Task) else Ok rows
 
--- the array at `task`
+-- the array at `task`, of 1 to 32 rows
 unfoldable pub task_rows : Members → Result Items FileFault
 task_rows file = do
   all ← array_at top label.Task file
   rows ← some_rows all
   up_to 32 section.Task rows
 
--- the array at `demand`
+-- the array at `demand`, which may be left out, of at most 1,000 rows
 unfoldable pub demand_rows : Members → Result Items FileFault
 demand_rows file = do
   rows ← array_or_empty top label.Demand file
   up_to 1000 section.Demand rows
 
+-- the keys at the top
 abbrev pub top_labels : List Label
 top_labels = label.Policy ∷ label.Object ∷ label.Task ∷ label.Demand ∷ []
 
--- the set of a document
+-- the set of a document, or the first fault in the order of checks: the policy, the arrays of objects, of tasks and of
+-- demand rows, other keys, and then each row of objects, each row of tasks with its keys and items, and each demand row
+-- in turn
 unfoldable pub set_of_file : Members → Result System FileFault
 set_of_file file = do
   policy ← policy_at file
@@ -122,7 +127,7 @@ set_of_file file = do
 unfoldable pub file_of : List ℕ → Result Members FileFault
 file_of bytes = ok_or (if is_utf8 bytes then parse_document bytes else None) fault.NotToml
 
--- the set of some bytes
+-- the set of some bytes, or the first fault: that they are no document, or that of the document
 unfoldable pub set_of : List ℕ → Result System FileFault
 set_of bytes = do
   file ← file_of bytes

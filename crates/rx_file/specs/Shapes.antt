@@ -30,7 +30,7 @@ word_of Read = codes "read"
 word_of Shift = codes "shift"
 word_of Multi = codes "multi"
 
--- the calls that have a word
+-- the calls that have a word, and the call that a word names
 abbrev pub verbs : List Verb
 verbs = Get ∷ Set ∷ Add ∷ Swap ∷ Put ∷ Take ∷ Insert ∷ Remove ∷ Has ∷ Read ∷ Shift ∷ Multi ∷ []
 
@@ -45,7 +45,7 @@ row_of numbers place = record { i = get_or numbers (3 * place) 0; old = get_or n
 abbrev pub row_count : ℕ → Option ℕ
 row_count numbers = find (λ count. 3 * count == numbers) (1 ∷ 2 ∷ 3 ∷ 4 ∷ [])
 
--- the transaction of 1 to 4 rows
+-- the transaction of 1 to 4 rows, three numbers to a row, with zeros for the rows that are left out
 abbrev pub multi_of : List ℕ → Option Call
 multi_of numbers =
     option_map (λ count. call.Multi count (row_of numbers 0 ∷ row_of numbers 1 ∷ row_of numbers 2 ∷ row_of numbers 3 ∷ [])) (row_count (length numbers))
@@ -90,7 +90,7 @@ abbrev pub operation_of : Verb → List (List ℕ) → Option Shape
 operation_of verb [] = None
 operation_of verb (object ∷ rest) = option_map (On object) (call_with verb rest)
 
--- the shape that some words have, if any
+-- the shape that the words of an item have, if any: ticks of work, or a call on an object of some name
 abbrev pub shape_of : List (List ℕ) → Option Shape
 shape_of [] = None
 shape_of (word ∷ rest) =

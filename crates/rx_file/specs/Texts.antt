@@ -10,11 +10,11 @@ with_digit number byte = 10 * number + (byte - 48)
 abbrev pub value_of : List ℕ → ℕ
 value_of digits = fold with_digit 0 digits
 
--- 1 to most digits
+-- a word of 1 to so many digits
 abbrev pub is_number : ℕ → List ℕ → Bool
 is_number most word = nat_le 1 (length word) && nat_le (length word) most && list_all is_digit word
 
--- the number of a word of 1 to most digits
+-- the number of a word of 1 to so many digits
 abbrev pub number_of : ℕ → List ℕ → Option ℕ
 number_of most word = if is_number most word then Some (value_of word) else None
 
@@ -27,6 +27,7 @@ within least most None = None
 abbrev pub word_number : List ℕ → Option ℕ
 word_number word = within 0 4294967295 (number_of 10 word)
 
+-- a space, and a word that is not empty
 abbrev pub is_space : ℕ → Bool
 is_space byte = byte == 32
 

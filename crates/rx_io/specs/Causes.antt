@@ -24,7 +24,7 @@ pub record Puts {T E : Type 0} (old new : Option (List ℕ)) (before now : ℕ) 
   pub part : OnErr result (Began old new bytes)
   pub cause : HasCause before now result
 
--- what was read where at most so many bytes may stand before the end: all to the end, or one byte more than that
+-- what was read is all to the end, or one byte more than may stand before it
 pub record IsInput (most : ℕ) (old new : Option (List ℕ)) (input : List ℕ) : Type 0 where
   pub taken : Consumes old new input
   pub few : length input ≤ most + 1

@@ -31,6 +31,7 @@ spaced n = codes " " ++ decimal n
 abbrev pub job_text : System → Job → List ℕ
 job_text system job = (task_of system job).name ++ spaced job.number
 
+-- an object that stands where there is none
 abbrev pub no_object : ObjectRow
 no_object = record { name = []; part = no_part }
 
@@ -171,7 +172,8 @@ key_fault what part row key = row_fault what part row ++ codes " " ++ label_word
 abbrev pub item_fault : List ℕ → ℕ → ℕ → List ℕ
 item_fault what task item = what ++ spaced task ++ spaced item
 
--- What a fault tells: its number and its word, and where it is. Want of memory is no fault of a file, and has no text.
+-- What a fault tells: `not toml`, or `set`, the fault's number and word, and where it is. Want of memory is no fault of
+-- a file, and has no text
 abbrev pub fault_text : FileFault → List ℕ
 fault_text fault.NotToml = codes "not toml"
 fault_text (fault.Field part row key) = key_fault (codes "set 2 field ") part row key

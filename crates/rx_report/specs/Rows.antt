@@ -1,4 +1,4 @@
--- Worked lines.
+-- Worked lines, also of each fault.
 use Rattle.std.specs.Prelude.{ℕ, ◌≡◌, refl, List, [], ◌∷◌, map, codes}
 use Rattle.std.specs.Fmt.{digits}
 use Rattle.rx_seq.specs.declared.kinds.Kind.{Kind}
