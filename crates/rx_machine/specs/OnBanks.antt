@@ -25,7 +25,7 @@ bank_view bank seat = view_at bank.core seat
 abbrev pub TellsOf : Whole → ℕ → Whole → ℕ → Operation → Operation → Step → Type 0
 TellsOf old seat now other machine after step = Tells old.layout bank_stands bank_view old seat now other machine after step
 
--- a win adds the entry of the call
+-- the history after a step: a win adds the entry of the call, and no other step adds any
 abbrev pub history_by : Step → Entry → List Entry → List Entry
 history_by Going entry history = history
 history_by Idle entry history = history

@@ -68,15 +68,15 @@ position machine = made_of machine.progress
 abbrev pub fresh : Home → ℕ → Call → Operation
 fresh place object call = record { place = place; object = object; call = call; ended = false; progress = None; outlook = Unsettled }
 
--- its attempt goes on
+-- the machine while its attempt goes on
 abbrev pub goes_on : Operation → Progress → Outlook → Operation
 goes_on machine progress outlook = record machine { progress = Some progress; outlook = outlook }
 
--- its attempt is decided, and lost
+-- the machine whose attempt is decided, and lost
 abbrev pub lost : Operation → Operation
 lost machine = record machine { progress = None; outlook = Unsettled }
 
--- nothing is left to do
+-- the machine with nothing left to do
 abbrev pub over : Operation → Operation
 over machine = record machine { ended = true; progress = None; outlook = Unsettled }
 

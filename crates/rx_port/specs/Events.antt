@@ -72,13 +72,13 @@ pub record IsHopeless (layout : Layout) (attempt : Attempt) (pairs : List Pair) 
   pub stale : IsStale (home layout attempt.object) attempt.expected attempt.reads
   pub none : pairs ≡ []
 
--- what a decide is asked: one of these two
+-- what a decide is asked, in one of two cases: a plan, or no hope of one
 pub record IsDecision (layout : Layout) (view : View) (attempt : Attempt) (new : ℕ) (pairs : List Pair) : Type 0 where
   pub is_open : view.attempt ≡ Some attempt
   pub case : IsPlanOf layout view attempt new pairs ⊎ IsHopeless layout attempt pairs
 
 -- the conditions of read, write and decide: an open attempt on the object; a number of an own place that the attempt
--- did not write yet; one of these two cases
+-- did not write yet; one of the two cases of a decide
 pub record IsOpen (layout : Layout) (view : View) (object : ℕ) : Type 0 where
   pub attempt : Attempt
   pub is : view.attempt ≡ Some attempt

@@ -22,7 +22,7 @@ pub record ServesBlocks (home : Home) (call : Call) : Type 0 where
   pub places : home.first + home.count ≤ 16777216
   pub fits : fits_part home.part call ≡ true
 
--- the limits of a part in block form
+-- the limits of the capacity of a part in block form
 pub record IsBounded (part : Part) : Type 0 where
   pub least : 1 ≤ part.cap
   pub most : part.cap ≤ 64
@@ -45,7 +45,7 @@ IsKept part call words reply = (state : List ℕ) → IsState part state → Beg
 abbrev pub IsWithin : ℕ → List ℕ → Type 0
 IsWithin count words = 0 < count → count ≤ suc (slice_index words 0)
 
--- those after the first are numbers of a state
+-- the words after the first are numbers of at most 32 bits
 abbrev pub HaveNumbers : ℕ → List ℕ → Type 0
 HaveNumbers count words = (n : ℕ) → suc n < count → slice_index words (suc n) ≤ most_value
 

@@ -32,7 +32,7 @@ pub record AreSeats (board : Board) (seats : List Sitting) : Type 0 where
   pub many : length seats ≡ board.layout.seats
   pub each : (number : ℕ) (seat : Sitting) → get_elem? seats number ≡ some seat → IsSeatOf board seat × (seat.view.number ≡ number)
 
--- the seats of the start: the first makes the next one; each has the places of the start of its number, nothing open,
+-- the seats of the start: the first one makes the next; each has the places of the start of its number, nothing open,
 -- and has seen and made nothing; some seats are these
 abbrev pub next_at : ℕ → ℕ → Option ℕ
 next_at next zero = Some next

@@ -40,7 +40,7 @@ pub data Touch : Type 0 where
   Store : Touch
   Exchange : Touch
 
--- the counts after it
+-- the counts after such a touch
 abbrev pub touched : Touch → Counts → Counts
 touched Nothing counts = counts
 touched Load counts = one_load counts

@@ -4,7 +4,7 @@ use Rattle.rx_set.specs.declared.jobs.Job.{Job}
 use Rattle.rx_set.specs.System.{System, rank}
 use Rattle.rx_tick.specs.Laws.{who, so_far, IsPreemption}
 
--- before slot n the job has an attempt or work in hand, whose first tick was in this slot
+-- before slot n the job has an attempt or work in hand, whose first tick was in a given slot
 pub record IsHeld (system : System) (n : ℕ) (job : Job) (first : ℕ) : Type 0 where
   pub some : 1 ≤ (so_far system job n).made
   pub begins : (so_far system job n).first ≡ first
