@@ -8,20 +8,22 @@ use Rattle.rx_edf.specs.declared.charged_tasks.ChargedTask.{ChargedTask}
 abbrev pub charged_task_of : System → ℕ → ChargedTask
 charged_task_of system task = record { period = (task_at system task).period; deadline = (task_at system task).deadline; cost = cost system task + retry_cost system }
 
+-- the same of all tasks, in file order
 abbrev pub charged_tasks_of : System → List ChargedTask
 charged_tasks_of system = map (charged_task_of system) (numbers (length system.tasks))
 
+-- a charged task that stands where there is none; the one at a place, from 0
 abbrev pub no_charged_task : ChargedTask
 no_charged_task = record { period = 0; deadline = 0; cost = 0 }
 
 abbrev pub charged_task_at : List ChargedTask → ℕ → ChargedTask
 charged_task_at charged place = get_or charged place no_charged_task
 
--- the sum of a value of each
+-- the sum of a value of each charged task
 abbrev pub sum_over : (ChargedTask → ℕ) → List ChargedTask → ℕ
 sum_over value charged = total (λ place. value (charged_task_at charged place)) (length charged)
 
--- what holds of each that a valid system has
+-- the limits of a charged task in a valid system, and of all of them
 pub record IsChargedTask (task : ChargedTask) : Type 0 where
   pub period : (1 ≤ task.period) × (task.period ≤ 1000000)
   pub deadline : (1 ≤ task.deadline) × (task.deadline ≤ task.period)
@@ -32,6 +34,7 @@ pub record AreChargedTasks (charged : List ChargedTask) : Type 0 where
   pub few : length charged ≤ 32
   pub each : (place : ℕ) → place < length charged → IsChargedTask (charged_task_at charged place)
 
+-- a number that is there, and else 0
 abbrev pub or_zero : Option ℕ → ℕ
 or_zero (Some n) = n
 or_zero None = 0
@@ -62,7 +65,7 @@ shortening_of_task task = task.period - task.deadline
 abbrev pub shortening_of : List ChargedTask → ℕ
 shortening_of charged = sum_over shortening_of_task charged
 
--- by how much they are, weighted with that work
+-- by how much deadlines are shorter than periods, weighted with the work in a cycle
 abbrev pub weighted_shortening_of_task : ℕ → ChargedTask → ℕ
 weighted_shortening_of_task cycle task = (task.period - task.deadline) * (cycle / task.period) * task.cost
 

@@ -1,4 +1,4 @@
--- Worked rows of the test for earliest deadlines first.
+-- Worked rows of the test for earliest deadlines first: cycles, last times and verdicts.
 use Rattle.std.specs.Prelude.{ℕ, ◌≡◌, refl, List, [], ◌∷◌, codes}
 use Rattle.rx_seq.specs.declared.kinds.Kind.TheVariants.{Cell}
 use Rattle.rx_seq.specs.declared.calls.Call.TheVariants.{Add}

@@ -7,7 +7,7 @@ use Rattle.rx_seq.specs.declared.entries.Entry.{Entry}
 use Rattle.rx_seq.specs.History.{tag_of, calls_of}
 use Rattle.rx_seq.specs.Legal.{IsLegal, entries_of}
 
--- each caller's entries
+-- the entries of each caller, oldest first
 abbrev pub lists_of : List (Vec Entry Global) → List (List Entry)
 lists_of lists = map (λ (list : Vec Entry Global). list.items) lists
 
@@ -27,7 +27,8 @@ is_on object entry = object == entry.object
 abbrev pub entries_on : ℕ → List Entry → List Entry
 entries_on object entries = filter (is_on object) entries
 
--- the lists are the entries of callers 0, 1 and so on of one legal history on so many objects
+-- the lists are those of callers 0, 1 and so on of one legal history: its tags begin at 0, each list has its caller's
+-- entries in their order, no entry is of another caller, and each is on one of so many objects
 pub record AreOf (parts : List Part) (objects : ℕ) (lists : List (List Entry)) (history : List Entry) : Type 0 where
   pub legal : IsLegal parts 0 history
   pub own : (caller : ℕ) → caller < length lists → list_at lists caller ≡ reverse (entries_of caller history)
@@ -75,6 +76,6 @@ abbrev pub merged_to : List (List Entry) → ℕ → List Entry
 merged_to lists zero = []
 merged_to lists (suc n) = let taken = merged_to lists n in with_next (first_ready lists taken) taken
 
--- the merged order of all entries
+-- the merged order of all entries, after a step for each
 abbrev pub merged : List (List Entry) → List Entry
 merged lists = merged_to lists (count_of lists)

@@ -1,4 +1,5 @@
--- Worked orders of the entries of some callers.
+-- Worked orders of the entries of some callers: two callers on one cell, and three on two, where the smallest that
+-- is ready goes first; and lists that are of no history.
 use Rattle.std.specs.Prelude.{ℕ, ◌≡◌, refl, List, [], ◌∷◌, Some, None}
 use Rattle.rx_seq.specs.declared.calls.Call.{Call}
 use Rattle.rx_seq.specs.declared.calls.Call.TheVariants.{Get, Set, Add}
