@@ -17,7 +17,7 @@ pub record IsListOf (caller : ℕ) (script : List Asked) (list : List Entry) : T
   pub calls : map asked_of list ≡ script
   pub own : (place : ℕ) (entry : Entry) → slice_get list place ≡ Some entry → (entry.caller ≡ caller) × (entry.index ≡ place + 1)
 
--- the list of a script whose entries have these answers
+-- the entries of a caller that have the operations of this script, with these answers
 pub record IsTold (caller : ℕ) (script : List Asked) (answers : List Answer) (list : List Entry) : Type 0 where
   pub is : IsListOf caller script list
   pub told : map answer_of list ≡ answers

@@ -35,7 +35,8 @@ ceiling t period = (t + period - 1) / period
 abbrev pub cost_to : System → ℕ → ℕ → ℕ → ℕ
 cost_to system place t task = if nat_le (rank system task) place then ceiling t (task_at system task).period * cost system task else 0
 
--- how many of its jobs are released strictly inside t ticks, if its rank is below the given one: each can spoil an attempt
+-- how many of a task's jobs are released strictly inside t ticks, if its rank is below a given one: each can spoil an
+-- attempt
 abbrev pub spoils_to : System → ℕ → ℕ → ℕ → ℕ
 spoils_to system place t task = if nat_lt (rank system task) place then ceiling (t - 1) (task_at system task).period else 0
 

@@ -41,7 +41,7 @@ pub record IsTaskRow (system : System) (row : TaskRow) : Type 0 where
   pub some_items : (1 ≤ length row.items) × (length row.items ≤ 64)
   pub items : (place : ℕ) (item : Item) → slice_get row.items place ≡ Some item → IsItem system item
 
--- a demand row names a work item of a task and one of its jobs, and gives 1 to 1,000,000 ticks
+-- a demand row names a work item of a task and a job from 1 to 1,000,000, and gives 1 to 1,000,000 ticks
 pub record IsDemandRow (system : System) (row : Demand) : Type 0 where
   pub task : row.task < length system.tasks
   pub job : (1 ≤ row.job) × (row.job ≤ 1000000)
