@@ -94,9 +94,10 @@ fn put_together(
 /// they are merged into one order, which has of each task its list, and on each object the entries of the closed table in
 /// the same order. The words of that table stand for its own history.
 ///
-/// It refuses want of memory alone. What the lanes need, 16 bytes for each operation, is taken before the first one starts;
-/// that of the closing, of the lists and of the merged order after the last one ended. Its cost is that of all operations,
-/// and of the merged order, which grows with their number times that of the tasks.
+/// It refuses want of memory alone, and no clause says when. Before the first lane starts it takes the words of the table
+/// with its seats, about 2,600 bytes for each lane, which are its machine, and 16 bytes for each operation; after the last
+/// one has ended a copy of the words, and for each operation an entry in a list and one in the merged order. Its cost is
+/// that of all operations, and of the merged order, which grows with their number times that of the tasks.
 pub fn run_lanes<R: Threads + Sync, G: Gate + Sync>(
     rt: &R,
     alloc: Global,

@@ -87,7 +87,8 @@ impl Ledger {
     }
 
     /// Appends an event, whose time is not below that of the last one. After `NoMemory`, its one refusal, nothing has
-    /// changed. It takes memory only where what it has is full, and its cost is constant, spread over all pushes.
+    /// changed. No clause says when that is answered. It takes memory only where what it has is full, and its cost is
+    /// constant, spread over all pushes.
     pub fn push(&mut self, event: Event) -> Result<(), NoMemory>
         requires { MayFollow self.old event }
         ensures appended { OnOk result (self.new ≡ self.old ++ event ∷ []) }

@@ -127,8 +127,8 @@ impl<'s> Executive<'s> {
     /// reply or retry, finish. The first tick of an attempt makes one load on the bank, the last one an exchange, and each
     /// other one a load, a store or nothing; a slot that belongs to no attempt touches nothing. A store goes into a place
     /// that the seat of the job's task owns, and an exchange to the root of the attempt's object. It wants fewer than 2^40
-    /// slots so far, and takes no memory. Where no job is released or finished and none can be missed, its cost is that of
-    /// a machine's step, and else it grows with the number of tasks too.
+    /// slots so far, and takes no memory, which no clause says. Where no job is released or finished and none can be
+    /// missed, its cost is that of a machine's step, and else it grows with the number of tasks too.
     ///
     /// In each interval the retries so far, with those of this slot, are at most the preemptions, and under fixed
     /// priorities those of the tasks of the first ranks are at most the releases of tasks of lower ranks. Where an
