@@ -1,0 +1,88 @@
+# awk -v words='lanes K J' -f lanes-order.awk INPUT OUTPUT: whether `lanes K J` may write this output of this input, whose
+# objects are cells. In the input each row stands on a line of its own, as `{name="c", kind="cell"},` and
+# `{name="t", period=9, body=["add c 1", "get c"]},`.
+#
+# Each task makes the operations of its jobs, once and in order. The tag of each cell counts 1, 2, 3 and so on. Each reply is
+# the one that the lines above make. Of the lines that may stand at a place, the one of the first task stands there. At the
+# end come the objects as all lines have left them, and the number of lines.
+
+function fault(text) {
+  print "  line " FNR ": " text
+  failed = 1
+  exit 1
+}
+
+# the reply of the call on a cell, which is made
+function reply(cell, call, one, two) {
+  if (call == "set") state[cell] = one
+  else if (call == "add" && state[cell] + one > 16777215) return "over"
+  else if (call == "add") state[cell] += one
+  else if (call == "swap" && state[cell] != one) return "differs " state[cell]
+  else if (call == "swap") state[cell] = two
+  return "done " state[cell]
+}
+
+# The operations of each task, by their number from 1, each with the number of its item.
+NR == FNR {
+  parts = split($0, part, "\"")
+  if (part[4] == "cell") {
+    objects[++object_count] = part[2]
+    state[part[2]] = tag[part[2]] = placed[part[2]] = 0
+  } else if (/body=/) {
+    tasks[++task_count] = part[2]
+    for (at = 4; at <= parts; at += 2)
+      if (part[at] !~ /^work /) {
+        item[part[2], ++operations[part[2]]] = at / 2 - 1
+        text[part[2], operations[part[2]]] = part[at]
+      }
+  }
+  next
+}
+
+FNR == 1 {
+  begun = 1
+  split(words, word, " ")
+  jobs = word[3]
+  for (at = 1; at <= task_count; at++) calls += jobs * operations[tasks[at]]
+  if ($0 != "lanes " word[2] " jobs " jobs) fault("it is not the first line of " words)
+  next
+}
+
+FNR <= calls + 1 {
+  number = made[$1]++
+  if (number >= jobs * operations[$1]) fault("no call is left to " $1)
+  place = number % operations[$1] + 1
+  split(text[$1, place], call, " ")
+  line = $1 " " int(number / operations[$1]) + 1 " " item[$1, place] " " text[$1, place] " -> "
+  line = line reply(call[2], call[1], call[3], call[4]) " tag " (++tag[call[2]])
+  if ($0 != line) fault("it is not: " line)
+  owner[FNR] = $1
+  cell[$1, number] = call[2]
+  its_tag[$1, number] = tag[call[2]]
+  next
+}
+
+FNR <= calls + 1 + object_count {
+  name = objects[FNR - calls - 1]
+  line = "object " name " cell tag " tag[name] " state " state[name]
+  if ($0 != line) fault("it is not: " line)
+  next
+}
+
+FNR == calls + object_count + 2 && $0 == "total calls " calls { next }
+
+{ fault("it is not the end") }
+
+END {
+  if (failed) exit 1
+  if (!begun || FNR != calls + object_count + 2) fault("nothing follows it")
+  for (FNR = 2; FNR <= calls + 1; FNR++) {
+    for (at = 1; at <= task_count; at++) {
+      task = tasks[at]
+      if ((task, taken[task] + 0) in its_tag && its_tag[task, taken[task] + 0] == placed[cell[task, taken[task] + 0]] + 1) break
+    }
+    if (owner[FNR] != task) fault("a line of " task " may stand there")
+    placed[cell[task, taken[task] + 0]]++
+    taken[task]++
+  }
+}
