@@ -73,16 +73,27 @@ FNR == calls + object_count + 2 && $0 == "total calls " calls { next }
 
 { fault("it is not the end") }
 
+# the next line of a task, as the cell that it calls and its tag; no tag where the task has no line left
+function look_at(at) {
+  if ((tasks[at], taken[at]) in its_tag) {
+    next_cell[at] = cell[tasks[at], taken[at]]
+    next_tag[at] = its_tag[tasks[at], taken[at]]
+  } else next_tag[at] = 0
+}
+
 END {
   if (failed) exit 1
   if (!begun || FNR != calls + object_count + 2) fault("nothing follows it")
+  for (at = 1; at <= task_count; at++) {
+    taken[at] = 0
+    look_at(at)
+  }
   for (FNR = 2; FNR <= calls + 1; FNR++) {
-    for (at = 1; at <= task_count; at++) {
-      task = tasks[at]
-      if ((task, taken[task] + 0) in its_tag && its_tag[task, taken[task] + 0] == placed[cell[task, taken[task] + 0]] + 1) break
-    }
-    if (owner[FNR] != task) fault("a line of " task " may stand there")
-    placed[cell[task, taken[task] + 0]]++
-    taken[task]++
+    for (at = 1; at <= task_count; at++)
+      if (next_tag[at] == placed[next_cell[at]] + 1) break
+    if (owner[FNR] != tasks[at]) fault("a line of " tasks[at] " may stand there")
+    placed[next_cell[at]]++
+    taken[at]++
+    look_at(at)
   }
 }
