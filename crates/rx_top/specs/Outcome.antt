@@ -80,7 +80,7 @@ plain_answer status output = record { status = status; output = output; about = 
 abbrev pub words_answer : Answer
 words_answer = plain_answer Words (codes "words\n")
 
--- the answer to an input of too many bytes
+-- the answer to an input of too many bytes: `TooLarge`, and `too large`
 abbrev pub large_answer : Answer
 large_answer = plain_answer TooLarge (codes "too large\n")
 
@@ -89,11 +89,11 @@ abbrev pub fault_status : FileFault → Status
 fault_status fault.NotToml = NotToml
 fault_status _ = BadSet
 
--- the answer to an input that is no set: its first fault is told
+-- the answer to an input that is no set: `NotToml` or `BadSet`, and the line of its first fault
 abbrev pub fault_answer : FileFault → Answer
 fault_answer first = plain_answer (fault_status first) (fault_line first)
 
--- the answer of a run of so many slots
+-- the answer of a run of so many slots: its report, `Adverse` where it tells a miss and else `Done`, and its bank
 abbrev pub run_answer : ℕ → System → Answer
 run_answer ticks system = record { status = if misses_told system ticks == 0 then Done else Adverse; output = report system ticks; about = Some system; made = None; leaves = LeaveBank system ticks }
 
@@ -117,7 +117,7 @@ admit_status_by Edf system = edf_status (edf_verdict_of system)
 abbrev pub admit_answer : System → Answer
 admit_answer system = record { status = admit_status_by system.policy system; output = admit_report system; about = Some system; made = None; leaves = LeaveNothing }
 
--- the answer of so many lanes that made this history
+-- the answer of so many lanes that made this history: its report, `Done`, and their table
 abbrev pub lanes_answer : ℕ → ℕ → List Entry → System → Answer
 lanes_answer workers jobs history system = record { status = Done; output = lanes_report system workers jobs history; about = Some system; made = Some (made_of system workers jobs history); leaves = LeaveTable system workers history }
 
@@ -127,7 +127,7 @@ set_answer (Run ticks) history system = run_answer ticks system
 set_answer Admit history system = admit_answer system
 set_answer (Lanes workers jobs) history system = lanes_answer workers jobs history system
 
--- the answer to the number of a drawn set that is run for so many slots
+-- the answer to the number of a drawn set that is run for so many slots: its report, `Done`, and its bank
 abbrev pub draw_answer : ℕ → ℕ → Answer
 draw_answer ticks number = record { status = Done; output = drawn_report (generated number) ticks; about = Some (generated number); made = None; leaves = LeaveBank (generated number) ticks }
 

@@ -22,6 +22,7 @@ abbrev pub limited : ℕ → Option ℕ → Option ℕ
 limited most None = None
 limited most (Some number) = if nat_le number most then Some number else None
 
+-- the command of the number, if there is one
 abbrev pub as_run : Option ℕ → Option Command
 as_run None = None
 as_run (Some ticks) = Some (Ask (Run ticks))
@@ -30,6 +31,7 @@ as_run (Some ticks) = Some (Ask (Run ticks))
 abbrev pub run_of : List ℕ → Option Command
 run_of number = as_run (limited 1000000 (number_of 20 number))
 
+-- the command of the number, if there is one
 abbrev pub as_draw : Option ℕ → Option Command
 as_draw None = None
 as_draw (Some number) = Some (Draw number)
@@ -43,6 +45,7 @@ abbrev pub counted : ℕ → Option ℕ → Option ℕ
 counted most None = None
 counted most (Some number) = if nat_le 1 number then limited most (Some number) else None
 
+-- the command of both numbers, if there are two
 abbrev pub as_lanes : Option ℕ → Option ℕ → Option Command
 as_lanes (Some workers) (Some jobs) = Some (Ask (Lanes workers jobs))
 as_lanes _ _ = None
