@@ -14,7 +14,7 @@ use Rattle.rx_tick.specs.Banks.{IsBankOf}
 use Rattle.rx_tick.specs.Executive.{Moment, moment}
 use Rattle.rx_tick.specs.Sums.{decided_slots, AreSums}
 use Rattle.rx_top.specs.Report.{run_totals}
-use Rattle.rx_top.specs.Leaves.{AreTold, IsBankLeft}
+use Rattle.rx_top.specs.Leaves.{AreReported, IsBankLeft}
 
 -- a miss is neither a reply nor a retry
 no_replies : (at : ℕ) (jobs : List Job) → count_by is_reply (map (Miss at) jobs) ≡ 0
@@ -35,10 +35,10 @@ decided_told system n law =
     let retries : (run_totals system n).retries ≡ count_by is_retry (events system n) + count_by is_retry late = sum_by-append (λ (e : Event). cond (is_retry e) 1 0) (events system n) late in
     omega (arith, law, replies, retries, no_replies (length (slots system n)) jobs, no_retries (length (slots system n)) jobs)
 
-are_told : (system : System) (n : ℕ) (counts : Option Counts) → decided_slots (slots system n) ≡ (run_totals system n).replies + (run_totals system n).retries
-    → AreSums system (slots system n) counts → AreTold system n counts
-are_told system n None told sums = tt
-are_told system n (Some counts) told sums = sums.exchanges ∙ told
+are_reported : (system : System) (n : ℕ) (counts : Option Counts) → decided_slots (slots system n) ≡ (run_totals system n).replies + (run_totals system n).retries
+    → AreSums system (slots system n) counts → AreReported system n counts
+are_reported system n None told sums = tt
+are_reported system n (Some counts) told sums = sums.exchanges ∙ told
 
 -- the bank of an executive after so many slots
 pub bank_left : (system : System) (ticks : ℕ) (end : Moment) (bank : Whole) → end ≡ moment system ticks end.bank
@@ -50,5 +50,5 @@ bank_left system ticks end bank is law stands sums =
     let these : AreSums system (slots system ticks) bank.core.counts = rw (by, at_end) at sums in record {
       history = rw (by, at_end) at stands;
       sums = these;
-      told = are_told system ticks bank.core.counts (decided_told system ticks law) these;
+      told = are_reported system ticks bank.core.counts (decided_told system ticks law) these;
     }

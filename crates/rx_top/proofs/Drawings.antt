@@ -13,11 +13,11 @@ use Rattle.rx_top.specs.declared.status.Status.TheVariants.{Done, Adverse, Words
 use Rattle.rx_top.specs.declared.words.Command.TheVariants.{Draw}
 use Rattle.rx_top.specs.Drawn.{drawn_report, drawn_ticks}
 use Rattle.rx_top.specs.Leaves.{IsBankLeft}
-use Rattle.rx_top.specs.Outcome.{Answered, Cut, Outcome, Silent, Starved, Tells, Told, WriteFailed, draw_answer, ends}
+use Rattle.rx_top.specs.Outcome.{Answered, WritesFront, Outcome, WritesNothing, LacksMemory, WritesAnswer, WritesAll, WriteFailed, draw_answer, ends}
 
 -- the whole report was written
 pub drawn_told : (system : System) (number ticks : ℕ) (old new : Option (List ℕ)) (before after : ℕ) (bank : Whole) → system ≡ generated number → IsValid (generated number) → IsBankLeft system ticks bank
-    → Appends old new (drawn_report system ticks) → after ≡ before → Told (draw_answer ticks number) old new before after (Bank bank) Done
+    → Appends old new (drawn_report system ticks) → after ≡ before → WritesAll (draw_answer ticks number) old new before after (Bank bank) Done
 drawn_told system number ticks old new before after bank same valid left written kept = record {
   status = refl;
   valid = valid;
@@ -29,7 +29,7 @@ drawn_told system number ticks old new before after bank same valid left written
 
 -- a front of it was
 pub drawn_cut : (system : System) (number ticks : ℕ) (old new : Option (List ℕ)) (before after : ℕ) (left : Left) → system ≡ generated number
-    → Began old new (drawn_report system ticks) → before < after → left ≡ Nothing → Cut (draw_answer ticks number) old new before after left
+    → Began old new (drawn_report system ticks) → before < after → left ≡ Nothing → WritesFront (draw_answer ticks number) old new before after left
 drawn_cut system number ticks old new before after left same written failed nothing = record {
   made = tt;
   written = subst (λ (s : System). Began old new (drawn_report s ticks)) same written;
@@ -38,7 +38,7 @@ drawn_cut system number ticks old new before after left same written failed noth
 }
 
 module _ (number faults before after : ℕ) (rest old new : Option (List ℕ)) (left : Left) where
-  told_is : (result : Status) → Told (draw_answer drawn_ticks number) old new before after left result → Answered (Some (Draw number)) (ends rest faults old before) (ends rest faults new after) left result
+  told_is : (result : Status) → WritesAll (draw_answer drawn_ticks number) old new before after left result → Answered (Some (Draw number)) (ends rest faults old before) (ends rest faults new after) left result
   told_is result told = record {
     input = [];
     history = [];
@@ -52,7 +52,7 @@ module _ (number faults before after : ℕ) (rest old new : Option (List ℕ)) (
     no_write_fault = told.no_fault;
   }
 
-  cut_is : Cut (draw_answer drawn_ticks number) old new before after left → WriteFailed (Some (Draw number)) (ends rest faults old before) (ends rest faults new after) left
+  cut_is : WritesFront (draw_answer drawn_ticks number) old new before after left → WriteFailed (Some (Draw number)) (ends rest faults old before) (ends rest faults new after) left
   cut_is cut = record {
     input = [];
     history = [];
@@ -66,11 +66,11 @@ module _ (number faults before after : ℕ) (rest old new : Option (List ℕ)) (
     nothing = cut.nothing;
   }
 
-  silent_is : Silent old new before after left → Starved (Some (Draw number)) (ends rest faults old before) (ends rest faults new after) left
+  silent_is : WritesNothing old new before after left → LacksMemory (Some (Draw number)) (ends rest faults old before) (ends rest faults new after) left
   silent_is silent = record { shape = refl; unread = λ none. refl; written = silent.written; no_read_fault = refl; no_write_fault = silent.no_fault; nothing = silent.nothing }
 
   -- what is told of the sink is the outcome of the command, which leaves the source as it was
-  pub drawn_outcome : (result : Status) → Tells (draw_answer drawn_ticks number) old new before after left result → Outcome (Some (Draw number)) (ends rest faults old before) (ends rest faults new after) left result
+  pub drawn_outcome : (result : Status) → WritesAnswer (draw_answer drawn_ticks number) old new before after left result → Outcome (Some (Draw number)) (ends rest faults old before) (ends rest faults new after) left result
   drawn_outcome ReadFault told = absurd told
   drawn_outcome WriteFault told = cut_is told
   drawn_outcome NoMemory told = silent_is told

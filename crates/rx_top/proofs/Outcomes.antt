@@ -20,8 +20,8 @@ use Rattle.rx_tick.specs.Laws.{FollowsBodies}
 use Rattle.rx_tick.specs.Schedule.{history, slots}
 use Rattle.rx_tick.specs.Events.{events, misses}
 use Rattle.rx_tick.specs.Charges.{of_rank_to, of_rank_below}
-use Rattle.rx_top.proofs.NoMisses.{none_told, preemptions_told, releases_told, retries_told}
-use Rattle.rx_top.specs.Report.{misses_told}
+use Rattle.rx_top.proofs.NoMisses.{none_reported, preemptions_reported, releases_reported, retries_reported}
+use Rattle.rx_top.specs.Report.{reported_misses}
 use Rattle.rx_fixed.specs.declared.verdicts.Verdict.{Verdict}
 use Rattle.rx_fixed.specs.declared.verdicts.Verdict.TheVariants.{Yes, No}
 use Rattle.rx_fixed.specs.Verdicts.{verdict_by, verdict_of}
@@ -51,7 +51,7 @@ use Rattle.rx_top.specs.LaneReport.{TellsCalls}
 use Rattle.rx_top.specs.Leaves.{LeaveBank, Leaves}
 use Rattle.rx_top.specs.Tests.{test_line_by}
 use Rattle.rx_top.specs.Outcome.{Ends, Answer, answer, admit_answer, admit_status_by, draw_answer, edf_status, fixed_status, input_answer, file_answer, large_answer, lanes_answer, run_answer, set_answer, most_input, Outcome, Answered, Headline, Admission, Sharing, Drawing, AnswersServed, AnswersFits, MeansTest, SaysYes, Charges, ChargesRanks}
-use Rattle.rx_top.specs.Determined.{is_calm, IsDetermined, UpTo, Determined, Unread}
+use Rattle.rx_top.specs.Determined.{is_answered, IsDetermined, SomeOrEach, Determined, Unread}
 
 -- all inputs of too many bytes have one answer
 too_large : (of_set : System → Answer) (input : List ℕ) → most_input < length input → input_answer of_set input ≡ large_answer
@@ -82,15 +82,15 @@ same_without_threads (Some (Ask (Lanes workers jobs))) history other input alone
 same_without_threads (Some (Draw number)) history other input alone = refl
 
 -- what holds of one history, and what of all
-up_to : (b : Bool) (P : List Entry → Type 0) → ((history : List Entry) × P history) → ((history other : List Entry) → b ≡ false → P history → P other) → UpTo b P
-up_to true P found same = found
-up_to false P found same = λ other. same found.0 other refl found.1
+some_or_each : (b : Bool) (P : List Entry → Type 0) → ((history : List Entry) × P history) → ((history other : List Entry) → b ≡ false → P history → P other) → SomeOrEach b P
+some_or_each true P found same = found
+some_or_each false P found same = λ other. same found.0 other refl found.1
 
-some_of : (b : Bool) (P : List Entry → Type 0) → b ≡ true → UpTo b P → (history : List Entry) × P history
+some_of : (b : Bool) (P : List Entry → Type 0) → b ≡ true → SomeOrEach b P → (history : List Entry) × P history
 some_of true P threads told = told
 some_of false P threads told = absurd (true≢false (sym threads))
 
-all_of : (b : Bool) (P : List Entry → Type 0) → b ≡ false → UpTo b P → (history : List Entry) → P history
+all_of : (b : Bool) (P : List Entry → Type 0) → b ≡ false → SomeOrEach b P → (history : List Entry) → P history
 all_of true P alone told = absurd (true≢false alone)
 all_of false P alone told = told
 
@@ -160,42 +160,42 @@ module _ (command : Option Command) (before after : Ends) (left : Left) where
   answered_unread result history input none told =
       determined_by told.history history told.input input result before.left (same_unread command told.history history told.input input none) (determined_read result before.left told (rw none at told.read))
 
-  -- a calm status is one that is answered
-  calm_answered : (result : Status) → is_calm result ≡ true → Outcome command before after left result → Answered command before after left result
-  calm_answered Done calm told = told
-  calm_answered Adverse calm told = told
-  calm_answered Words calm told = told
-  calm_answered TooLarge calm told = told
-  calm_answered NotToml calm told = told
-  calm_answered BadSet calm told = told
-  calm_answered Wide calm told = told
-  calm_answered Long calm told = told
-  calm_answered ReadFault calm told = absurd (true≢false (sym calm))
-  calm_answered WriteFault calm told = absurd (true≢false (sym calm))
-  calm_answered NoMemory calm told = absurd (true≢false (sym calm))
+  -- at a status that is an answer the whole answer was given
+  answer_given : (result : Status) → is_answered result ≡ true → Outcome command before after left result → Answered command before after left result
+  answer_given Done answers told = told
+  answer_given Adverse answers told = told
+  answer_given Words answers told = told
+  answer_given TooLarge answers told = told
+  answer_given NotToml answers told = told
+  answer_given BadSet answers told = told
+  answer_given Wide answers told = told
+  answer_given Long answers told = told
+  answer_given ReadFault answers told = absurd (true≢false (sym answers))
+  answer_given WriteFault answers told = absurd (true≢false (sym answers))
+  answer_given NoMemory answers told = absurd (true≢false (sym answers))
 
-  -- a status is calm where there was memory and no count rose
-  calm_without_faults : (result : Status) → Outcome command before after left result → result ≢ NoMemory → after.read_faults ≡ before.read_faults → after.write_faults ≡ before.write_faults
-      → is_calm result ≡ true
-  calm_without_faults Done told memory reads writes = refl
-  calm_without_faults Adverse told memory reads writes = refl
-  calm_without_faults Words told memory reads writes = refl
-  calm_without_faults TooLarge told memory reads writes = refl
-  calm_without_faults NotToml told memory reads writes = refl
-  calm_without_faults BadSet told memory reads writes = refl
-  calm_without_faults Wide told memory reads writes = refl
-  calm_without_faults Long told memory reads writes = refl
-  calm_without_faults ReadFault told memory reads writes = absurd (omega (arith, told.read_fault, reads))
-  calm_without_faults WriteFault told memory reads writes = absurd (omega (arith, told.write_fault, writes))
-  calm_without_faults NoMemory told memory reads writes = absurd (memory refl)
+  -- a status is an answer where there was memory and no count rose
+  answered_without_faults : (result : Status) → Outcome command before after left result → result ≢ NoMemory → after.read_faults ≡ before.read_faults → after.write_faults ≡ before.write_faults
+      → is_answered result ≡ true
+  answered_without_faults Done told memory reads writes = refl
+  answered_without_faults Adverse told memory reads writes = refl
+  answered_without_faults Words told memory reads writes = refl
+  answered_without_faults TooLarge told memory reads writes = refl
+  answered_without_faults NotToml told memory reads writes = refl
+  answered_without_faults BadSet told memory reads writes = refl
+  answered_without_faults Wide told memory reads writes = refl
+  answered_without_faults Long told memory reads writes = refl
+  answered_without_faults ReadFault told memory reads writes = absurd (omega (arith, told.read_fault, reads))
+  answered_without_faults WriteFault told memory reads writes = absurd (omega (arith, told.write_fault, writes))
+  answered_without_faults NoMemory told memory reads writes = absurd (memory refl)
 
   pub determined : (result : Status) → Outcome command before after left result → Determined command before after left result
-  determined result told input known reads calm =
-      up_to (uses_threads command) _ (answered_read result input known reads (calm_answered result calm told))
+  determined result told input known reads answers =
+      some_or_each (uses_threads command) _ (answered_read result input known reads (answer_given result answers told))
       (λ history other alone given. determined_by history other input input result (Some (drop (most_input + 1) input)) (same_without_threads command history other input alone) given)
 
   pub unread : (result : Status) → Outcome command before after left result → Unread command before after left result
-  unread result told history input none calm = answered_unread result history input none (calm_answered result calm told)
+  unread result told history input none answers = answered_unread result history input none (answer_given result answers told)
 
 no_yes : (place : ℕ) → No place ≡ Yes → ⊥
 no_yes place e = cc
@@ -289,11 +289,11 @@ legal_left system ticks (Bank bank) is =
 
 -- the laws of the schedule, as those of what a run tells
 charges : (laws : Laws) (system : System) (n : ℕ) → IsValid system → Charges system n
-charges laws system n valid a b = omega (arith, laws.bounds system n a b valid, retries_told any_job system n a b, preemptions_told any_job system n a b)
+charges laws system n valid a b = omega (arith, laws.bounds system n a b valid, retries_reported any_job system n a b, preemptions_reported any_job system n a b)
 
 charges_ranks : (laws : Laws) (system : System) (n : ℕ) → IsValid system → ChargesRanks system n
 charges_ranks laws system n valid fixed place a b =
-    omega (arith, laws.ranks system n place a b valid fixed, retries_told (of_rank_to system place) system n a b, releases_told (of_rank_below system place) system n a b)
+    omega (arith, laws.ranks system n place a b valid fixed, retries_reported (of_rank_to system place) system n a b, releases_reported (of_rank_below system place) system n a b)
 
 never_missed : (laws : Laws) (system : System) → IsValid system → SaysYes system → KeepsCosts system → (m : ℕ) → misses system (slots system m) ≡ []
 never_missed laws system valid line kept m = by_policy system.policy refl
@@ -306,8 +306,8 @@ never_missed laws system valid line kept m = by_policy system.policy refl
     by_policy Dm e = let fixed : system.policy ≢ Edf = λ f. dm_not (sym e ∙ f) in laws.ranked system m valid kept fixed ((meaning.served fixed).0 line)
     by_policy Edf e = laws.earliest system m valid kept e (meaning.fits e line)
 
-none_missed : (laws : Laws) (system : System) (n : ℕ) → IsValid system → SaysYes system → KeepsCosts system → misses_told system n ≡ 0
-none_missed laws system n valid line kept = none_told system n (never_missed laws system valid line kept)
+none_missed : (laws : Laws) (system : System) (n : ℕ) → IsValid system → SaysYes system → KeepsCosts system → reported_misses system n ≡ 0
+none_missed laws system n valid line kept = none_reported system n (never_missed laws system valid line kept)
 
 -- the status of a run without a miss
 done_without : (result : Status) (n : ℕ) → result ≡ (if n == 0 then Done else Adverse) → n ≡ 0 → result ≡ Done
@@ -316,12 +316,12 @@ done_without result n is none = is ∙ ap (λ (k : ℕ). if k == 0 then Done els
 pub headline : Laws → (command : Option Command) (before after : Ends) (left : Left) (result : Status) → Outcome command before after left result → Headline command before after left result
 headline laws command before after left result told ticks input system asks known few set memory reads writes =
     let reading : reads_input command ≡ true = ap reads_input asks in
-    let given = all_of (uses_threads command) _ (ap uses_threads asks) (determined command before after left result told input known reading (calm_without_faults command before after left result told memory reads writes)) [] in
+    let given = all_of (uses_threads command) _ (ap uses_threads asks) (determined command before after left result told input known reading (answered_without_faults command before after left result told memory reads writes)) [] in
     let same : answer command [] input ≡ run_answer ticks system =
     ap (λ c. answer c [] input) asks ∙ fits (run_answer ticks) input few ∙ ap (file_answer (run_answer ticks)) set in
     let valid : IsValid system = subst (λ about. IfSome about IsValid) (ap (λ (a : Answer). a.about) same) given.valid in
     let bank : Leaves (LeaveBank system ticks) left = subst (λ leaves. Leaves leaves left) (ap (λ (a : Answer). a.leaves) same) given.leaves in
-    let status : result ≡ (if misses_told system ticks == 0 then Done else Adverse) = given.status ∙ ap (λ (a : Answer). a.status) same in record {
+    let status : result ≡ (if reported_misses system ticks == 0 then Done else Adverse) = given.status ∙ ap (λ (a : Answer). a.status) same in record {
       read = given.unread ∙ ap (λ (r : List ℕ). Some r) (drop_of_length-le input {i = most_input + 1} (omega (arith, few)));
       written = subst (Appends before.taken after.taken) (ap (λ (a : Answer). a.output) same) given.written;
       test = means laws system valid;
@@ -332,7 +332,7 @@ headline laws command before after left result told ticks input system asks know
       bodies = λ task known. laws.bodies system task ticks valid known;
       charge = charges laws system ticks valid;
       ranks = charges_ranks laws system ticks valid;
-      on_time = λ line kept. let none : misses_told system ticks ≡ 0 = none_missed laws system ticks valid line kept in (none, done_without result (misses_told system ticks) status none);
+      on_time = λ line kept. let none : reported_misses system ticks ≡ 0 = none_missed laws system ticks valid line kept in (none, done_without result (reported_misses system ticks) status none);
     }
 
 -- what the status of an admission says under fixed priorities
@@ -401,7 +401,7 @@ answers_fits laws system result valid status = record {
 pub admission : Laws → (command : Option Command) (before after : Ends) (left : Left) (result : Status) → Outcome command before after left result → Admission command before after left result
 admission laws command before after left result told input system asks known few set memory reads writes =
     let reading : reads_input command ≡ true = ap reads_input asks in
-    let given = all_of (uses_threads command) _ (ap uses_threads asks) (determined command before after left result told input known reading (calm_without_faults command before after left result told memory reads writes)) [] in
+    let given = all_of (uses_threads command) _ (ap uses_threads asks) (determined command before after left result told input known reading (answered_without_faults command before after left result told memory reads writes)) [] in
     let same : answer command [] input ≡ admit_answer system =
     ap (λ c. answer c [] input) asks ∙ fits admit_answer input few ∙ ap (file_answer admit_answer) set in
     let valid : IsValid system = subst (λ about. IfSome about IsValid) (ap (λ (a : Answer). a.about) same) given.valid in
@@ -418,7 +418,7 @@ admission laws command before after left result told input system asks known few
 pub drawing : Laws → (command : Option Command) (before after : Ends) (left : Left) (result : Status) → Outcome command before after left result → Drawing command before after left result
 drawing laws command before after left result told number asks memory reads writes =
     let none : reads_input command ≡ false = ap reads_input asks in
-    let given = unread command before after left result told [] [] none (calm_without_faults command before after left result told memory reads writes) in
+    let given = unread command before after left result told [] [] none (answered_without_faults command before after left result told memory reads writes) in
     let same : answer command [] [] ≡ draw_answer drawn_ticks number = ap (λ c. answer c [] []) asks in
     let bank : Leaves (LeaveBank (generated number) drawn_ticks) left = subst (λ leaves. Leaves leaves left) (ap (λ (a : Answer). a.leaves) same) given.leaves in
     let valid : IsValid (generated number) = subst (λ about. IfSome about IsValid) (ap (λ (a : Answer). a.about) same) given.valid in record {
@@ -450,7 +450,7 @@ tells_calls law system workers jobs history made task place entry known found =
 pub sharing : CallsLaw → (command : Option Command) (before after : Ends) (left : Left) (result : Status) → Outcome command before after left result → Sharing command before after left result
 sharing law command before after left result told workers jobs input system asks known few set memory reads writes =
     let reading : reads_input command ≡ true = ap reads_input asks in
-    let found = some_of (uses_threads command) _ (ap uses_threads asks) (determined command before after left result told input known reading (calm_without_faults command before after left result told memory reads writes)) in
+    let found = some_of (uses_threads command) _ (ap uses_threads asks) (determined command before after left result told input known reading (answered_without_faults command before after left result told memory reads writes)) in
     let given = found.1 in
     let same : answer command found.0 input ≡ lanes_answer workers jobs found.0 system =
     ap (λ c. answer c found.0 input) asks ∙ fits (lanes_answer workers jobs found.0) input few ∙ ap (file_answer (lanes_answer workers jobs found.0)) set in

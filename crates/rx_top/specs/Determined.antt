@@ -12,19 +12,19 @@ use Rattle.rx_lanes.specs.Histories.{IsMade}
 use Rattle.rx_top.specs.Leaves.{Leaves}
 use Rattle.rx_top.specs.Outcome.{Ends, answer, most_input}
 
--- neither a fault nor want of memory
-abbrev pub is_calm : Status → Bool
-is_calm ReadFault = false
-is_calm WriteFault = false
-is_calm NoMemory = false
-is_calm Done = true
-is_calm Adverse = true
-is_calm Words = true
-is_calm TooLarge = true
-is_calm NotToml = true
-is_calm BadSet = true
-is_calm Wide = true
-is_calm Long = true
+-- whether a status is an answer: neither a fault nor want of memory
+abbrev pub is_answered : Status → Bool
+is_answered ReadFault = false
+is_answered WriteFault = false
+is_answered NoMemory = false
+is_answered Done = true
+is_answered Adverse = true
+is_answered Words = true
+is_answered TooLarge = true
+is_answered NotToml = true
+is_answered BadSet = true
+is_answered Wide = true
+is_answered Long = true
 
 -- the status, the bytes and what is left are those of the words, the input and this history, the set that they are about is valid, lanes can make the history if they had to, and this is the rest of the input
 pub record IsDetermined (command : Option Command) (history : List Entry) (input : List ℕ) (before after : Ends) (left : Left) (result : Status) (rest : Option (List ℕ)) : Type 0 where
@@ -36,18 +36,18 @@ pub record IsDetermined (command : Option Command) (history : List Entry) (input
   pub unread : after.left ≡ rest
 
 -- what holds of some history where threads have a part in the answer, and of every one where they have none
-abbrev pub UpTo : Bool → (List Entry → Type 0) → Type 0
-UpTo true P = (history : List Entry) × P history
-UpTo false P = (history : List Entry) → P history
+abbrev pub SomeOrEach : Bool → (List Entry → Type 0) → Type 0
+SomeOrEach true P = (history : List Entry) × P history
+SomeOrEach false P = (history : List Entry) → P history
 
 -- A command that reads its input: the status, the bytes, what is left and the rest of the input are those of the words and the input, and for lanes those of a history that they can make.
 abbrev pub Determined : Option Command → Ends → Ends → Left → Status → Type 0
 Determined command before after left result =
-    (input : List ℕ) → before.left ≡ Some input → reads_input command ≡ true → is_calm result ≡ true
-    → UpTo (uses_threads command) (λ history. IsDetermined command history input before after left result (Some (drop (most_input + 1) input)))
+    (input : List ℕ) → before.left ≡ Some input → reads_input command ≡ true → is_answered result ≡ true
+    → SomeOrEach (uses_threads command) (λ history. IsDetermined command history input before after left result (Some (drop (most_input + 1) input)))
 
 -- Words of no shape, and a command that reads nothing: the same, whatever the input and the history, and the source keeps it.
 abbrev pub Unread : Option Command → Ends → Ends → Left → Status → Type 0
 Unread command before after left result =
-    (history : List Entry) (input : List ℕ) → reads_input command ≡ false → is_calm result ≡ true
+    (history : List Entry) (input : List ℕ) → reads_input command ≡ false → is_answered result ≡ true
     → IsDetermined command history input before after left result before.left

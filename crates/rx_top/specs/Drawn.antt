@@ -7,7 +7,7 @@ use Rattle.rx_ledger.specs.Intervals.{any_job, retries, preemptions}
 use Rattle.rx_report.specs.Lines.{total_line}
 use Rattle.rx_report.specs.SpanLines.{window_line}
 use Rattle.rx_top.specs.Tests.{test_line}
-use Rattle.rx_top.specs.Report.{told_of, object_lines, run_totals}
+use Rattle.rx_top.specs.Report.{reported_events, object_lines, run_totals}
 
 -- a drawn set is run for so many ticks, and each of the ten intervals has a tenth of them
 abbrev pub drawn_ticks : ℕ
@@ -29,7 +29,7 @@ first_windows told count = flat_map (window_line_after told) (numbers count)
 
 -- what is written of a run after its test: the intervals, the objects and the totals
 abbrev pub window_report : System → ℕ → List ℕ
-window_report system ticks = first_windows (told_of system ticks) 10 ++ (object_lines system ticks ++ total_line (run_totals system ticks))
+window_report system ticks = first_windows (reported_events system ticks) 10 ++ (object_lines system ticks ++ total_line (run_totals system ticks))
 
 -- all that is written of a drawn set: the line of its test, and that
 abbrev pub drawn_report : System → ℕ → List ℕ

@@ -35,7 +35,7 @@ use Rattle.rx_tick.specs.Laws.{FollowsBodies}
 use Rattle.rx_tick.specs.Schedule.{history, slots}
 use Rattle.rx_top.specs.Tests.{admit_report, test_line}
 use Rattle.rx_top.specs.Drawn.{drawn_report, drawn_ticks}
-use Rattle.rx_top.specs.Report.{report, told_of, misses_told}
+use Rattle.rx_top.specs.Report.{report, reported_events, reported_misses}
 use Rattle.rx_lanes.specs.Histories.{IsMade, Made, made_of}
 use Rattle.rx_top.specs.LaneReport.{TellsCalls, lanes_report}
 use Rattle.rx_top.specs.Leaves.{ToLeave, LeaveNothing, LeaveBank, LeaveTable, Leaves}
@@ -95,7 +95,7 @@ fault_answer first = plain_answer (fault_status first) (fault_line first)
 
 -- the answer of a run of so many slots: its report, `Adverse` where it tells a miss and else `Done`, and its bank
 abbrev pub run_answer : ℕ → System → Answer
-run_answer ticks system = record { status = if misses_told system ticks == 0 then Done else Adverse; output = report system ticks; about = Some system; made = None; leaves = LeaveBank system ticks }
+run_answer ticks system = record { status = if reported_misses system ticks == 0 then Done else Adverse; output = report system ticks; about = Some system; made = None; leaves = LeaveBank system ticks }
 
 -- the status of the verdict of each test
 abbrev pub fixed_status : Verdict → Status
@@ -196,7 +196,7 @@ pub record WriteFailed (command : Option Command) (before after : Ends) (left : 
   pub nothing : left ≡ Nothing
 
 -- There was no memory. The words have a shape, a command that reads nothing left the source as it was, and nothing was written or is left.
-pub record Starved (command : Option Command) (before after : Ends) (left : Left) : Type 0 where
+pub record LacksMemory (command : Option Command) (before after : Ends) (left : Left) : Type 0 where
   pub shape : IsSome command
   pub unread : reads_input command ≡ false → after.left ≡ before.left
   pub written : Keeps before.taken after.taken
@@ -208,7 +208,7 @@ pub record Starved (command : Option Command) (before after : Ends) (left : Left
 abbrev pub Outcome : Option Command → Ends → Ends → Left → Status → Type 0
 Outcome command before after left ReadFault = ReadFailed command before after left
 Outcome command before after left WriteFault = WriteFailed command before after left
-Outcome command before after left NoMemory = Starved command before after left
+Outcome command before after left NoMemory = LacksMemory command before after left
 Outcome command before after left Done = Answered command before after left Done
 Outcome command before after left Adverse = Answered command before after left Adverse
 Outcome command before after left Words = Answered command before after left Words
@@ -219,7 +219,7 @@ Outcome command before after left Wide = Answered command before after left Wide
 Outcome command before after left Long = Answered command before after left Long
 
 -- What a command does to the sink alone once its input is read, and what it leaves: it writes its answer and leaves its bank or its table,
-pub record Told (answer : Answer) (old new : Option (List ℕ)) (before after : ℕ) (left : Left) (result : Status) : Type 0 where
+pub record WritesAll (answer : Answer) (old new : Option (List ℕ)) (before after : ℕ) (left : Left) (result : Status) : Type 0 where
   pub status : result ≡ answer.status
   pub valid : IfSome answer.about IsValid
   pub made : IfSome answer.made IsMade
@@ -228,34 +228,34 @@ pub record Told (answer : Answer) (old new : Option (List ℕ)) (before after : 
   pub no_fault : after ≡ before
 
 -- or a front of it, since the sink failed, and leaves nothing,
-pub record Cut (answer : Answer) (old new : Option (List ℕ)) (before after : ℕ) (left : Left) : Type 0 where
+pub record WritesFront (answer : Answer) (old new : Option (List ℕ)) (before after : ℕ) (left : Left) : Type 0 where
   pub made : IfSome answer.made IsMade
   pub written : Began old new answer.output
   pub fault : before < after
   pub nothing : left ≡ Nothing
 
 -- or nothing, since there was no memory.
-pub record Silent (old new : Option (List ℕ)) (before after : ℕ) (left : Left) : Type 0 where
+pub record WritesNothing (old new : Option (List ℕ)) (before after : ℕ) (left : Left) : Type 0 where
   pub written : Keeps old new
   pub no_fault : after ≡ before
   pub nothing : left ≡ Nothing
 
-abbrev pub Tells : Answer → Option (List ℕ) → Option (List ℕ) → ℕ → ℕ → Left → Status → Type 0
-Tells answer old new before after left ReadFault = ⊥
-Tells answer old new before after left WriteFault = Cut answer old new before after left
-Tells answer old new before after left NoMemory = Silent old new before after left
-Tells answer old new before after left Done = Told answer old new before after left Done
-Tells answer old new before after left Adverse = Told answer old new before after left Adverse
-Tells answer old new before after left Words = Told answer old new before after left Words
-Tells answer old new before after left TooLarge = Told answer old new before after left TooLarge
-Tells answer old new before after left NotToml = Told answer old new before after left NotToml
-Tells answer old new before after left BadSet = Told answer old new before after left BadSet
-Tells answer old new before after left Wide = Told answer old new before after left Wide
-Tells answer old new before after left Long = Told answer old new before after left Long
+abbrev pub WritesAnswer : Answer → Option (List ℕ) → Option (List ℕ) → ℕ → ℕ → Left → Status → Type 0
+WritesAnswer answer old new before after left ReadFault = ⊥
+WritesAnswer answer old new before after left WriteFault = WritesFront answer old new before after left
+WritesAnswer answer old new before after left NoMemory = WritesNothing old new before after left
+WritesAnswer answer old new before after left Done = WritesAll answer old new before after left Done
+WritesAnswer answer old new before after left Adverse = WritesAll answer old new before after left Adverse
+WritesAnswer answer old new before after left Words = WritesAll answer old new before after left Words
+WritesAnswer answer old new before after left TooLarge = WritesAll answer old new before after left TooLarge
+WritesAnswer answer old new before after left NotToml = WritesAll answer old new before after left NotToml
+WritesAnswer answer old new before after left BadSet = WritesAll answer old new before after left BadSet
+WritesAnswer answer old new before after left Wide = WritesAll answer old new before after left Wide
+WritesAnswer answer old new before after left Long = WritesAll answer old new before after left Long
 
 -- the same of one of the answers to a history
-abbrev pub TellsOne : (List Entry → Answer) → Option (List ℕ) → Option (List ℕ) → ℕ → ℕ → Left → Status → Type 0
-TellsOne answers old new before after left result = (history : List Entry) × Tells (answers history) old new before after left result
+abbrev pub WritesOneAnswer : (List Entry → Answer) → Option (List ℕ) → Option (List ℕ) → ℕ → ℕ → Left → Status → Type 0
+WritesOneAnswer answers old new before after left result = (history : List Entry) × WritesAnswer (answers history) old new before after left result
 
 -- the first line is `test yes`
 abbrev pub SaysYes : System → Type 0
@@ -268,11 +268,11 @@ pub record MeansTest (system : System) : Type 0 where
 
 -- the retries of the run in any interval are at most the preemptions in it, and under fixed priorities those of the tasks of the first ranks are at most the releases of tasks of lower ranks
 abbrev pub Charges : System → ℕ → Type 0
-Charges system ticks = (a b : ℕ) → retries any_job a b (told_of system ticks) ≤ preemptions any_job a b (told_of system ticks)
+Charges system ticks = (a b : ℕ) → retries any_job a b (reported_events system ticks) ≤ preemptions any_job a b (reported_events system ticks)
 
 abbrev pub ChargesRanks : System → ℕ → Type 0
 ChargesRanks system ticks = system.policy ≢ Edf → (place a b : ℕ)
-    → retries (of_rank_to system place) a b (told_of system ticks) ≤ releases (of_rank_below system place) a b (told_of system ticks)
+    → retries (of_rank_to system place) a b (reported_events system ticks) ≤ releases (of_rank_below system place) a b (reported_events system ticks)
 
 -- the operations of each task in the history of the run are those of its body, once for each finished job, and then those of the next job's complete items
 abbrev pub MakesBodies : System → ℕ → Type 0
@@ -280,14 +280,14 @@ MakesBodies system ticks = (task : ℕ) → task < length system.tasks → Follo
 
 -- where the first line says yes and costs are kept, no miss is told
 abbrev pub IsOnTime : System → ℕ → Status → Type 0
-IsOnTime system ticks result = SaysYes system → KeepsCosts system → (misses_told system ticks ≡ 0) × (result ≡ Done)
+IsOnTime system ticks result = SaysYes system → KeepsCosts system → (reported_misses system ticks ≡ 0) × (result ≡ Done)
 
 -- All of the input was read, the bytes taken are those of the report and no others, its first line tells the test, the status says whether there is a miss, the bank is that of the run, and its history is one of the objects used one operation at a time.
 pub record Reported (system : System) (ticks : ℕ) (before after : Ends) (left : Left) (result : Status) : Type 0 where
   pub read : after.left ≡ Some []
   pub written : Appends before.taken after.taken (report system ticks)
   pub test : MeansTest system
-  pub status : result ≡ (if misses_told system ticks == 0 then Done else Adverse)
+  pub status : result ≡ (if reported_misses system ticks == 0 then Done else Adverse)
   pub bank : Leaves (LeaveBank system ticks) left
   pub valid : IsValid system
   pub legal : IsLegal (parts_of system) 0 (history (slots system ticks))
@@ -335,7 +335,7 @@ Admission command before after left result =
     → Admitted system before after left result
 
 -- The input is as it was, the bytes taken are the report of the drawn set and no others, and the bank is that of its run. Where the first line says yes, no miss is among the totals.
-pub record DrawnAndTold (number : ℕ) (before after : Ends) (left : Left) (result : Status) : Type 0 where
+pub record DrawnReported (number : ℕ) (before after : Ends) (left : Left) (result : Status) : Type 0 where
   pub unread : after.left ≡ before.left
   pub written : Appends before.taken after.taken (drawn_report (generated number) drawn_ticks)
   pub status : result ≡ Done
@@ -345,17 +345,17 @@ pub record DrawnAndTold (number : ℕ) (before after : Ends) (left : Left) (resu
   pub bodies : MakesBodies (generated number) drawn_ticks
   pub charge : Charges (generated number) drawn_ticks
   pub ranks : ChargesRanks (generated number) drawn_ticks
-  pub on_time : SaysYes (generated number) → misses_told (generated number) drawn_ticks ≡ 0
+  pub on_time : SaysYes (generated number) → reported_misses (generated number) drawn_ticks ≡ 0
 
 -- `gen`, given memory and no fault, writes the report of the set of its number, and leaves the bank of its run.
 abbrev pub Drawing : Option Command → Ends → Ends → Left → Status → Type 0
 Drawing command before after left result =
     (number : ℕ) → command ≡ Some (Draw number)
     → result ≢ NoMemory → after.read_faults ≡ before.read_faults → after.write_faults ≡ before.write_faults
-    → DrawnAndTold number before after left result
+    → DrawnReported number before after left result
 
 -- All of the input was read. The bytes taken are the report of this history and no others, which so many lanes can make of the operations of the set for so many jobs of each task; each line tells its entry's own call. In the table that is left each lane's seat has the entries of its tasks.
-pub record SharedAndTold (system : System) (workers jobs : ℕ) (before after : Ends) (left : Left) (result : Status) : Type 0 where
+pub record LanesReported (system : System) (workers jobs : ℕ) (before after : Ends) (left : Left) (result : Status) : Type 0 where
   pub history : List Entry
   pub made : IsMade (made_of system workers jobs history)
   pub calls : TellsCalls system history
@@ -371,4 +371,4 @@ Sharing command before after left result =
     (workers jobs : ℕ) (input : List ℕ) (system : System)
     → command ≡ Some (Ask (Lanes workers jobs)) → before.left ≡ Some input → length input ≤ most_input → set_of input ≡ Ok system
     → result ≢ NoMemory → after.read_faults ≡ before.read_faults → after.write_faults ≡ before.write_faults
-    → SharedAndTold system workers jobs before after left result
+    → LanesReported system workers jobs before after left result

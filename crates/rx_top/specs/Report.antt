@@ -13,12 +13,12 @@ use Rattle.rx_report.specs.Lines.{event_line, object_line, total_line}
 use Rattle.rx_top.specs.Tests.{test_line}
 
 -- the events of the first n slots, and the misses at time n
-abbrev pub told_of : System → ℕ → List Event
-told_of system n = events system n ++ misses system (slots system n)
+abbrev pub reported_events : System → ℕ → List Event
+reported_events system n = events system n ++ misses system (slots system n)
 
 -- the totals of the first n slots and of all events that are told
 abbrev pub run_totals : System → ℕ → Totals
-run_totals system n = totals_of (slots system n) (told_of system n)
+run_totals system n = totals_of (slots system n) (reported_events system n)
 
 -- the line of an object after these entries: its tag and its state are theirs
 abbrev pub object_line_after : System → List Entry → ℕ → List ℕ
@@ -30,12 +30,12 @@ object_lines system n = flat_map (object_line_after system (history (slots syste
 
 -- the lines of the schedule of n ticks: its events, its objects and its totals
 abbrev pub schedule_lines : System → ℕ → List ℕ
-schedule_lines system n = flat_map (event_line system) (told_of system n) ++ object_lines system n ++ total_line (run_totals system n)
+schedule_lines system n = flat_map (event_line system) (reported_events system n) ++ object_lines system n ++ total_line (run_totals system n)
 
 -- all that a run of n ticks writes: the line of the admission test, and the lines of the schedule
 abbrev pub report : System → ℕ → List ℕ
 report system n = test_line system ++ schedule_lines system n
 
 -- how many misses a run of n ticks tells
-abbrev pub misses_told : System → ℕ → ℕ
-misses_told system n = (run_totals system n).missed
+abbrev pub reported_misses : System → ℕ → ℕ
+reported_misses system n = (run_totals system n).missed

@@ -13,7 +13,7 @@ use Rattle.rx_set.specs.declared.items.Item.TheVariants.{Work, Op}
 use Rattle.rx_set.specs.System.{System, ObjectRow, TaskRow}
 use Rattle.rx_top.specs.Tests.{fixed_report}
 use Rattle.rx_top.specs.LaneReport.{lanes_report}
-use Rattle.rx_top.specs.Report.{misses_told, report}
+use Rattle.rx_top.specs.Report.{reported_misses, report}
 
 abbrev task : List ℕ → ℕ → ℕ → List Item → TaskRow
 task name period offset items = record { name = name; period = period; deadline = period; offset = offset; items = items }
@@ -92,7 +92,7 @@ pub overload_report : report overload 4 ≡
 unfolding digits
 overload_report = refl
 
-pub overload_misses : misses_told overload 4 ≡ 2
+pub overload_misses : reported_misses overload 4 ≡ 2
 overload_misses = refl
 
 -- what the admission test says of three of these sets

@@ -13,7 +13,7 @@ use Rattle.rx_tick.specs.Counts.{totals_of}
 use Rattle.rx_report.specs.Lines.{event_line, total_line}
 use Rattle.rx_port.specs.Plain.{Whole}
 use Rattle.rx_tick.specs.Banks.{IsBankOf}
-use Rattle.rx_top.specs.Report.{told_of, run_totals, object_line_after, object_lines}
+use Rattle.rx_top.specs.Report.{reported_events, run_totals, object_line_after, object_lines}
 
 -- the lines of some events
 abbrev pub lines_of : System → List Event → List ℕ
@@ -32,7 +32,7 @@ pub record AreNoted (system : System) (n : ℕ) (ledger : List Event) (totals : 
 
 -- This is what is noted of a run of n ticks: all events that are told, their totals, and a bank that stands for its history.
 pub record IsRun (system : System) (n : ℕ) (ledger : List Event) (totals : Totals) (bank : Whole) : Type 0 where
-  pub events_are : ledger ≡ told_of system n
+  pub events_are : ledger ≡ reported_events system n
   pub totals_are : totals ≡ run_totals system n
   pub stands : IsBankOf system (slots system n) bank
 

@@ -18,9 +18,9 @@ uses_threads (Some (Ask (Lanes workers jobs))) = true
 uses_threads _ = false
 
 -- a number up to the most, or no shape
-abbrev pub limited : ℕ → Option ℕ → Option ℕ
-limited most None = None
-limited most (Some number) = if nat_le number most then Some number else None
+abbrev pub number_up_to : ℕ → Option ℕ → Option ℕ
+number_up_to most None = None
+number_up_to most (Some number) = if nat_le number most then Some number else None
 
 -- the command of the number, if there is one
 abbrev pub as_run : Option ℕ → Option Command
@@ -29,7 +29,7 @@ as_run (Some ticks) = Some (Ask (Run ticks))
 
 -- `run` and a number word of 1 to 20 digits
 abbrev pub run_of : List ℕ → Option Command
-run_of number = as_run (limited 1000000 (number_of 20 number))
+run_of number = as_run (number_up_to 1000000 (number_of 20 number))
 
 -- the command of the number, if there is one
 abbrev pub as_draw : Option ℕ → Option Command
@@ -38,12 +38,12 @@ as_draw (Some number) = Some (Draw number)
 
 -- `gen` and a number word of 1 to 20 digits, whose number has at most 64 bits
 abbrev pub draw_of : List ℕ → Option Command
-draw_of number = as_draw (limited 18446744073709551615 (number_of 20 number))
+draw_of number = as_draw (number_up_to 18446744073709551615 (number_of 20 number))
 
 -- a number from 1 up to the most, or no shape
-abbrev pub counted : ℕ → Option ℕ → Option ℕ
-counted most None = None
-counted most (Some number) = if nat_le 1 number then limited most (Some number) else None
+abbrev pub from_one_to : ℕ → Option ℕ → Option ℕ
+from_one_to most None = None
+from_one_to most (Some number) = if nat_le 1 number then number_up_to most (Some number) else None
 
 -- the command of both numbers, if there are two
 abbrev pub as_lanes : Option ℕ → Option ℕ → Option Command
@@ -52,7 +52,7 @@ as_lanes _ _ = None
 
 -- `lanes`, a number word for how many lanes there are, 1 to 16, and one for how many jobs they make of each task, 1 to 200
 abbrev pub lanes_of : List ℕ → List ℕ → Option Command
-lanes_of workers jobs = as_lanes (counted 16 (number_of 20 workers)) (counted 200 (number_of 20 jobs))
+lanes_of workers jobs = as_lanes (from_one_to 16 (number_of 20 workers)) (from_one_to 200 (number_of 20 jobs))
 
 -- the command of one word, of a word and a number word, and of a word and two
 abbrev pub one_word : List ℕ → Option Command

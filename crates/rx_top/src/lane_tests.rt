@@ -1,6 +1,6 @@
 // The table that lanes leave, and two lanes that meet at a gate.
 use super::*;
-use crate::tests::{Case, SHARED, end};
+use crate::tests::{Case, SHARED, answer};
 use rx_lanes::{Gate, NoGate};
 use rx_seq::State;
 use rx_table::Closed;
@@ -9,20 +9,20 @@ use std::test::Fail;
 
 /// What a closed table of one cell holds: how many seats it has, and the tag and the state of the cell.
 #[derive(Drop)]
-struct Words {
+struct LeftObject {
     seats: u32,
     tag: u64,
     state: State,
 }
 
 /// What a closed table holds, if it has an object.
-fn words_of(closed: &Closed) -> Option<Words> {
+fn left_object(closed: &Closed) -> Option<LeftObject> {
     if closed.layout().parts().is_empty() {
         return None;
     }
     let mut state = State::new();
     closed.state(0, &mut state);
-    Some(Words {
+    Some(LeftObject {
         seats: closed.layout().seats(),
         tag: closed.tag(0),
         state,
@@ -60,17 +60,22 @@ fn leaves_the_table_of_the_lanes(rt: HostRuntime) -> Result<(), Fail> {
             value: 6,
         },
     ] {
-        let ending = end(&rt, rt.alloc(), &Case::new(want.words, SHARED), &NoGate)?;
+        let ending = answer(&rt, rt.alloc(), &Case::new(want.words, SHARED), &NoGate)?;
         assert_eq!(&rt; ending.status, Status::Done, "{}", want.words);
         let Left::Closed { closed } = ending.left else {
             return Err("no table".into());
         };
-        let Some(words) = words_of(&closed) else {
+        let Some(found) = left_object(&closed) else {
             return Err("no object".into());
         };
-        assert_eq!(&rt; words.seats, want.seats, "{}", want.words);
-        assert_eq!(&rt; words.tag, want.tag, "{}", want.words);
-        assert_eq!(&rt; words.state.as_slice(), [want.value].as_slice(), "{}", want.words);
+        assert_eq!(&rt; found.seats, want.seats, "{}", want.words);
+        assert_eq!(&rt; found.tag, want.tag, "{}", want.words);
+        assert_eq!(&rt;
+            found.state.as_slice(),
+            [want.value].as_slice(),
+            "{}",
+            want.words
+        );
     }
     Ok(())
 }
@@ -104,7 +109,7 @@ fn two_lanes_meet(rt: HostRuntime) -> Result<(), Fail> {
         here: [AtomicBool::new(false), AtomicBool::new(false)],
         met: [AtomicBool::new(false), AtomicBool::new(false)],
     };
-    let ending = end(&rt, rt.alloc(), &Case::new("lanes 2 1", SHARED), &meeting)?;
+    let ending = answer(&rt, rt.alloc(), &Case::new("lanes 2 1", SHARED), &meeting)?;
     assert_eq!(&rt; ending.status, Status::Done);
     for lane in 0..2 {
         assert!(&rt; meeting.met[lane].load(Ordering::SeqCst), "lane {lane}");

@@ -8,7 +8,7 @@ ghost use Rattle.rx_io.specs.Causes.{Puts};
 ghost use Rattle.rx_tick.specs.Schedule.{Slot, history, slots, slot_at};
 ghost use Rattle.rx_tick.specs.Events.{events, events_of, misses};
 ghost use Rattle.rx_report.specs.Lines.{total_line};
-ghost use Rattle.rx_top.specs.Report.{report, schedule_lines, run_totals, misses_told, object_line_after};
+ghost use Rattle.rx_top.specs.Report.{report, schedule_lines, run_totals, reported_misses, object_line_after};
 ghost use Rattle.rx_top.specs.Leaves.{IsBankLeft};
 ghost use Rattle.rx_top.specs.Runs.{lines_of, AreCounts, end_lines, first_objects};
 
@@ -212,7 +212,7 @@ fn write_schedule<K: Sink>(
     requires start { executive ≡ moment set.now 0 executive.bank }
     ensures puts { Puts (K.taken sink.old) (K.taken sink.new) (K.faults sink.old) (K.faults sink.new)
         result (schedule_lines set.now ticks) }
-    ensures misses { IfOk result (λ ended. ended.missed ≡ misses_told set.now ticks) }
+    ensures misses { IfOk result (λ ended. ended.missed ≡ reported_misses set.now ticks) }
     ensures bank { IfOk result (λ ended. IsBankLeft set.now ticks ended.bank) }
 {
     let mut tick = Tick::new();
@@ -262,7 +262,7 @@ pub(crate) fn write_run<K: Sink>(
     requires start { executive ≡ moment set.now 0 executive.bank }
     ensures puts { Puts (K.taken sink.old) (K.taken sink.new) (K.faults sink.old) (K.faults sink.new)
         result (report set.now ticks) }
-    ensures misses { IfOk result (λ ended. ended.missed ≡ misses_told set.now ticks) }
+    ensures misses { IfOk result (λ ended. ended.missed ≡ reported_misses set.now ticks) }
     ensures bank { IfOk result (λ ended. IsBankLeft set.now ticks ended.bank) }
 {
     let mut line = Line::new();

@@ -2,7 +2,7 @@
 ghost use Rattle.std.specs.Prelude.{◌≡◌};
 ghost use Rattle.rx_top.specs.Outcome.{code_of};
 
-/// How a call of `top` ends.
+/// How a call of `top` ends. `code` gives each its exit status.
 #[derive(Clone, Copy, Debug, PartialEq, Eq)]
 pub enum Status {
     /// The whole report was written: of `run`, one that tells no miss, and of `admit`, that the test says yes.
@@ -32,7 +32,7 @@ pub enum Status {
 }
 
 impl Status {
-    /// The exit code of the program: 0 to 10, in the order of the variants.
+    /// The exit status of the program: 0 to 10, in the order of the variants.
     pub fn code(self) -> u8
         ensures { result ≡ code_of self }
     {

@@ -65,7 +65,7 @@ total calls 4
 "#;
 
 /// An object of each kind, and a task for each.
-pub(crate) const KINDS: &str = r#"
+const KINDS: &str = r#"
 object = [
   {name="r", kind="registers", capacity=4},
   {name="q", kind="queue", capacity=1},
@@ -155,7 +155,7 @@ pub(crate) struct Ending {
 }
 
 /// Calls `top` as a case says.
-pub(crate) fn end<G: Gate + Sync>(
+pub(crate) fn answer<G: Gate + Sync>(
     rt: &(impl Threads + Sync),
     alloc: Global,
     case: &Case,
@@ -166,7 +166,7 @@ pub(crate) fn end<G: Gate + Sync>(
     }
     let bytes = case.input.as_bytes().to_vec(alloc)?;
     let mut source = MemorySource::new(bytes, case.step, [case.read_fails].to_vec(alloc)?);
-    let made = MemorySink::new(alloc, 4096, case.step, [case.write_fails].to_vec(alloc)?);
+    let made = MemorySink::new(alloc, 16_384, case.step, [case.write_fails].to_vec(alloc)?);
     let mut sink = made.map_err(|_| "no memory")?;
     let (status, left) = call(rt, alloc, case.words, &mut source, &mut sink, gate)?;
     let taken = sink.taken().to_vec(alloc)?;
@@ -217,9 +217,14 @@ fn moves_one_byte_a_call(rt: HostRuntime) -> Result<(), Fail> {
             step: 1,
             ..Case::new(report.words, SHARED)
         };
-        let ending = end(&rt, rt.alloc(), &case, &NoGate)?;
+        let ending = answer(&rt, rt.alloc(), &case, &NoGate)?;
         assert_eq!(&rt; ending.status, Status::Done, "{}", report.words);
-        assert_eq!(&rt; ending.taken.as_slice(), report.text.as_bytes(), "{}", report.words);
+        assert_eq!(&rt;
+            ending.taken.as_slice(),
+            report.text.as_bytes(),
+            "{}",
+            report.words
+        );
     }
     Ok(())
 }
@@ -233,8 +238,12 @@ fn a_failed_read_writes_and_leaves_nothing(rt: HostRuntime) -> Result<(), Fail> 
                 read_fails,
                 ..Case::new(report.words, SHARED)
             };
-            let ending = end(&rt, rt.alloc(), &case, &NoGate)?;
-            assert!(&rt; ends_so(&ending, Status::ReadFault, b""), "{}", report.words);
+            let ending = answer(&rt, rt.alloc(), &case, &NoGate)?;
+            assert!(&rt;
+                ends_so(&ending, Status::ReadFault, b""),
+                "{}",
+                report.words
+            );
         }
     }
     Ok(())
@@ -264,7 +273,7 @@ fn is_cut_before(
         write_fails: line,
         ..Case::new(report.words, SHARED)
     };
-    let ending = end(rt, alloc, &case, &NoGate)?;
+    let ending = answer(rt, alloc, &case, &NoGate)?;
     let want = lines_before(alloc, report.text, line)?;
     Ok(ends_so(&ending, Status::WriteFault, want.as_slice()))
 }
@@ -276,7 +285,8 @@ fn a_failed_write_leaves_a_front(rt: HostRuntime) -> Result<(), Fail> {
         for line in 1..=report.lines {
             assert!(&rt;
                 is_cut_before(&rt, rt.alloc(), report, line)?,
-                "{} before line {line}", report.words
+                "{} before line {line}",
+                report.words
             );
         }
     }
@@ -299,11 +309,11 @@ fn a_failed_write_leaves_a_front_of_the_other_answers(rt: HostRuntime) -> Result
         write_fails: 3,
         ..Case::new("runs 10", "")
     };
-    let ending = end(&rt, rt.alloc(), &drawn, &NoGate)?;
+    let ending = answer(&rt, rt.alloc(), &drawn, &NoGate)?;
     assert!(&rt; ends_so(&ending, Status::WriteFault, b"test yes\n"));
-    let ending = end(&rt, rt.alloc(), &fault, &NoGate)?;
+    let ending = answer(&rt, rt.alloc(), &fault, &NoGate)?;
     assert!(&rt; ends_so(&ending, Status::WriteFault, b"se"));
-    let ending = end(&rt, rt.alloc(), &words, &NoGate)?;
+    let ending = answer(&rt, rt.alloc(), &words, &NoGate)?;
     assert!(&rt; ends_so(&ending, Status::WriteFault, b"word"));
     Ok(())
 }
@@ -361,18 +371,18 @@ fn calls_of_one_byte(
 #[test]
 fn nothing_is_called_after_a_failed_read(rt: HostRuntime) -> Result<(), Fail> {
     for report in REPORTS {
-        let answer = calls_of_one_byte(&rt, rt.alloc(), report.words)?;
-        assert_eq!(&rt; answer, (Status::ReadFault, 2, 0), "{}", report.words);
+        let calls = calls_of_one_byte(&rt, rt.alloc(), report.words)?;
+        assert_eq!(&rt; calls, (Status::ReadFault, 2, 0), "{}", report.words);
     }
     Ok(())
 }
 
 #[test]
 fn what_reads_nothing_never_calls_the_reader(rt: HostRuntime) -> Result<(), Fail> {
-    let answer = calls_of_one_byte(&rt, rt.alloc(), "run 1000001")?;
-    assert_eq!(&rt; answer, (Status::Words, 0, 1));
-    let answer = calls_of_one_byte(&rt, rt.alloc(), "gen 0")?;
-    assert_eq!(&rt; answer, (Status::WriteFault, 0, 2));
+    let calls = calls_of_one_byte(&rt, rt.alloc(), "run 1000001")?;
+    assert_eq!(&rt; calls, (Status::Words, 0, 1));
+    let calls = calls_of_one_byte(&rt, rt.alloc(), "gen 0")?;
+    assert_eq!(&rt; calls, (Status::WriteFault, 0, 2));
     Ok(())
 }
 
@@ -426,20 +436,20 @@ fn leaves_the_rest_of_a_large_input(rt: HostRuntime) -> Result<(), Fail> {
 
 /// What is left of a run: the events of its bank, and the tag and the state of an object.
 #[derive(Drop)]
-struct Words {
+struct LeftObject {
     counts: Counts,
     tag: u64,
     state: State,
 }
 
 /// Runs a set, and answers what is left, with the words of an object.
-fn words_of(
+fn left_object(
     rt: &(impl Threads + Sync),
     alloc: Global,
     case: &Case,
     object: u32,
-) -> Result<Words, Fail> {
-    let ending = end(rt, alloc, case, &NoGate)?;
+) -> Result<LeftObject, Fail> {
+    let ending = answer(rt, alloc, case, &NoGate)?;
     let Left::Bank { bank } = ending.left else {
         return Err("no bank".into());
     };
@@ -448,7 +458,7 @@ fn words_of(
     }
     let mut state = State::new();
     bank.state(object, &mut state);
-    Ok(Words {
+    Ok(LeftObject {
         counts: bank.counts(),
         tag: bank.tag(object),
         state,
@@ -491,15 +501,20 @@ fn leaves_the_events_of_its_run(rt: HostRuntime) -> Result<(), Fail> {
             value: 0,
         },
     ] {
-        let words = words_of(&rt, rt.alloc(), &Case::new(want.words, SHARED), 0)?;
+        let found = left_object(&rt, rt.alloc(), &Case::new(want.words, SHARED), 0)?;
         let counts = Counts {
             loads: want.loads,
             stores: 0,
             exchanges: want.exchanges,
         };
-        assert_eq!(&rt; words.counts, counts, "{}", want.words);
-        assert_eq!(&rt; words.tag, want.tag, "{}", want.words);
-        assert_eq!(&rt; words.state.as_slice(), [want.value].as_slice(), "{}", want.words);
+        assert_eq!(&rt; found.counts, counts, "{}", want.words);
+        assert_eq!(&rt; found.tag, want.tag, "{}", want.words);
+        assert_eq!(&rt;
+            found.state.as_slice(),
+            [want.value].as_slice(),
+            "{}",
+            want.words
+        );
     }
     Ok(())
 }
@@ -554,10 +569,20 @@ fn leaves_an_object_of_each_kind(rt: HostRuntime) -> Result<(), Fail> {
             state: &[1458],
         },
     ] {
-        let words = words_of(&rt, rt.alloc(), &Case::new(want.words, KINDS), want.object)?;
-        assert_eq!(&rt; words.counts.exchanges, want.exchanges, "object {}", want.object);
-        assert_eq!(&rt; words.tag, want.tag, "object {}", want.object);
-        assert_eq!(&rt; words.state.as_slice(), want.state, "object {}", want.object);
+        let found = left_object(&rt, rt.alloc(), &Case::new(want.words, KINDS), want.object)?;
+        assert_eq!(&rt;
+            found.counts.exchanges,
+            want.exchanges,
+            "object {}",
+            want.object
+        );
+        assert_eq!(&rt; found.tag, want.tag, "object {}", want.object);
+        assert_eq!(&rt;
+            found.state.as_slice(),
+            want.state,
+            "object {}",
+            want.object
+        );
     }
     Ok(())
 }

@@ -9,7 +9,7 @@ ghost use Rattle.rx_tick.specs.Executive.{moment};
 ghost use Rattle.std.specs.Option.{ForSome};
 ghost use Rattle.rx_top.specs.declared.left.Left.TheVariants.{Nothing};
 ghost use Rattle.rx_top.specs.Words.{command_of, IsLimited};
-ghost use Rattle.rx_top.specs.Outcome.{Outcome, Headline, Tells, TellsOne, Admission, Sharing, Drawing, ends, admit_answer, draw_answer, edf_status, input_answer, lanes_answer, large_answer, fault_answer, fault_status, run_answer, set_answer};
+ghost use Rattle.rx_top.specs.Outcome.{Outcome, Headline, WritesAnswer, WritesOneAnswer, Admission, Sharing, Drawing, ends, admit_answer, draw_answer, edf_status, input_answer, lanes_answer, large_answer, fault_answer, fault_status, run_answer, set_answer};
 ghost use Rattle.rx_top.specs.Determined.{Determined, Unread};
 
 use crate::admits::{write_admission, write_spans};
@@ -49,12 +49,13 @@ const DRAWN_TICKS: u64 = 100_000;
 /// Does all that the program does: answers the words after its name, reads the input from `source`, and writes what it
 /// tells to `sink`.
 ///
-/// `admit` reads a task file, in the form that `rx_file::read_set` says, and writes the line of the admission test of its
-/// policy, and under fixed priorities a line for each rank. `run N` reads one and writes the report of its schedule: the
-/// line of the test, the events of the slots 0 to N - 1, the misses at time N, a line for each object, and the line of
-/// the totals. `lanes K J` reads one, has K lanes make the operations of J jobs of each task on one shared table
-/// (`rx_lanes::run_lanes`), in threads of `rt` where it gives them, and writes how many lanes and jobs there were, a line
-/// for each operation, in the merged order, a line for each object, and how many operations there were. A lane passes
+/// `admit` reads a task file, in the form that `rx_file::read_set` says, and writes the line of the admission test (a
+/// schedulability test) of its policy, and under fixed priorities a line for each rank with the least time that serves it,
+/// which response-time analysis takes as the bound of a worst-case response. `run N` reads one and writes the report of
+/// its schedule: the line of the test, the events of the slots 0 to N - 1, the misses at time N, a line for each object,
+/// and the line of the totals. `lanes K J` reads one, has K lanes make the operations of J jobs of each task on one shared
+/// table (`rx_lanes::run_lanes`), in threads of `rt` where it gives them, and writes how many lanes and jobs there were, a
+/// line for each operation, in the merged order, a line for each object, and how many operations there were. A lane passes
 /// `gate` before each of its operations. `gen X` draws the set of a number (`rx_set::generate`), runs it for 100,000 ticks,
 /// and writes the line of the test, a line for each of ten intervals, a line for each object, and the line of the totals.
 /// N, K, J and X are words of 1 to 20 ASCII digits, leading zeros allowed; N is at most 1,000,000, K is 1 to 16, J is 1 to
@@ -242,7 +243,7 @@ fn answer_input<R: Threads + Sync, K: Sink, G: Gate + Sync>(
     requires sink { K.faults sink.old < 2 ^ 63 }
     requires limits { IsLimited (Command.Ask query) }
     requires nothing { left.old ≡ Nothing }
-    ensures { TellsOne (λ history. input_answer (set_answer query history) input.now)
+    ensures { WritesOneAnswer (λ history. input_answer (set_answer query history) input.now)
         (K.taken sink.old) (K.taken sink.new) (K.faults sink.old) (K.faults sink.new) left.new result }
 {
     if input.len() > MOST_INPUT {
@@ -268,7 +269,7 @@ fn answer_set<R: Threads + Sync, K: Sink, G: Gate + Sync>(
     requires sink { K.faults sink.old < 2 ^ 63 }
     requires limits { IsLimited (Command.Ask query) }
     requires nothing { left.old ≡ Nothing }
-    ensures { TellsOne (λ history. set_answer query history set.now)
+    ensures { WritesOneAnswer (λ history. set_answer query history set.now)
         (K.taken sink.old) (K.taken sink.new) (K.faults sink.old) (K.faults sink.new) left.new result }
 {
     // That the set is valid.
@@ -285,7 +286,7 @@ fn answer_set<R: Threads + Sync, K: Sink, G: Gate + Sync>(
 /// Says that the input has too many bytes.
 fn refuse_size<K: Sink>(sink: &mut K) -> Status
     requires { K.faults sink.old < 2 ^ 63 }
-    ensures { Tells large_answer
+    ensures { WritesAnswer large_answer
         (K.taken sink.old) (K.taken sink.new) (K.faults sink.old) (K.faults sink.new) Nothing result }
 {
     match put(sink, b"too large\n") {
@@ -304,11 +305,11 @@ fn fault_status(fault: &FileFault) -> Status
     }
 }
 
-/// Tells the first fault of the input.
+/// WritesAnswer the first fault of the input.
 fn refuse_fault<K: Sink>(fault: &FileFault, sink: &mut K) -> Status
     requires faults { K.faults sink.old < 2 ^ 63 }
     requires fault { fault.now ≢ OutOfMemory }
-    ensures { Tells (fault_answer fault.now)
+    ensures { WritesAnswer (fault_answer fault.now)
         (K.taken sink.old) (K.taken sink.new) (K.faults sink.old) (K.faults sink.new) Nothing result }
 {
     let mut line = Line::new();
@@ -351,7 +352,7 @@ fn run_set<K: Sink>(
     requires sink { K.faults sink.old < 2 ^ 63 }
     requires limits { ticks ≤ 1000000 }
     requires nothing { left.old ≡ Nothing }
-    ensures { Tells (run_answer ticks set.now)
+    ensures { WritesAnswer (run_answer ticks set.now)
         (K.taken sink.old) (K.taken sink.new) (K.faults sink.old) (K.faults sink.new) left.new result }
 {
     let executive = match new_executive(alloc, set) {
@@ -386,7 +387,7 @@ fn share_set<R: Threads + Sync, K: Sink, G: Gate + Sync>(
     requires sink { K.faults sink.old < 2 ^ 63 }
     requires limits { ((1 ≤ workers) × (workers ≤ 16)) × ((1 ≤ jobs) × (jobs ≤ 200)) }
     requires nothing { left.old ≡ Nothing }
-    ensures { TellsOne (λ history. lanes_answer workers jobs history set.now)
+    ensures { WritesOneAnswer (λ history. lanes_answer workers jobs history set.now)
         (K.taken sink.old) (K.taken sink.new) (K.faults sink.old) (K.faults sink.new) left.new result }
 {
     let Run {
@@ -406,11 +407,11 @@ fn share_set<R: Threads + Sync, K: Sink, G: Gate + Sync>(
     }
 }
 
-/// Tells what the admission test says of a set.
+/// WritesAnswer what the admission test says of a set.
 fn admit_set<K: Sink>(set: &TaskSet, sink: &mut K) -> Status
     requires valid { IsValid set.now }
     requires faults { K.faults sink.old < 2 ^ 63 }
-    ensures { Tells (admit_answer set.now)
+    ensures { WritesAnswer (admit_answer set.now)
         (K.taken sink.old) (K.taken sink.new) (K.faults sink.old) (K.faults sink.new) Nothing result }
 {
     match set.policy() {
@@ -419,12 +420,12 @@ fn admit_set<K: Sink>(set: &TaskSet, sink: &mut K) -> Status
     }
 }
 
-/// Tells what the test for fixed priorities says of a set.
+/// WritesAnswer what the test for fixed priorities says of a set.
 fn admit_ranks<K: Sink>(set: &TaskSet, sink: &mut K) -> Status
     requires valid { IsValid set.now }
     requires faults { K.faults sink.old < 2 ^ 63 }
     requires policy { set.now.policy ≢ Edf }
-    ensures { Tells (admit_answer set.now)
+    ensures { WritesAnswer (admit_answer set.now)
         (K.taken sink.old) (K.taken sink.new) (K.faults sink.old) (K.faults sink.new) Nothing result }
 {
     match write_admission(set, sink) {
@@ -446,12 +447,12 @@ fn edf_status(verdict: EdfVerdict) -> Status
     }
 }
 
-/// Tells what the test for earliest deadlines first says of a set.
+/// WritesAnswer what the test for earliest deadlines first says of a set.
 fn admit_spans<K: Sink>(set: &TaskSet, sink: &mut K) -> Status
     requires valid { IsValid set.now }
     requires faults { K.faults sink.old < 2 ^ 63 }
     requires policy { set.now.policy ≡ Edf }
-    ensures { Tells (admit_answer set.now)
+    ensures { WritesAnswer (admit_answer set.now)
         (K.taken sink.old) (K.taken sink.new) (K.faults sink.old) (K.faults sink.new) Nothing result }
 {
     let mut line = Line::new();
@@ -466,7 +467,7 @@ fn draw<K: Sink>(alloc: Global, number: u64, ticks: u64, sink: &mut K, left: &mu
     requires sink { K.faults sink.old < 2 ^ 63 }
     requires limits { ticks ≤ 1000000 }
     requires nothing { left.old ≡ Nothing }
-    ensures { Tells (draw_answer ticks number)
+    ensures { WritesAnswer (draw_answer ticks number)
         (K.taken sink.old) (K.taken sink.new) (K.faults sink.old) (K.faults sink.new) left.new result }
 {
     let set = match generate(alloc, number) {

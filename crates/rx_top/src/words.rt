@@ -2,7 +2,7 @@
 ghost use Rattle.rx_file.specs.Texts.{number_of};
 ghost use Rattle.std.specs.Prelude.{◌≡◌, ◌≤◌, map, string_bytes, IfSome};
 ghost use Rattle.std.specs.Option.{ForSome};
-ghost use Rattle.rx_top.specs.Words.{IsLimited, command_of, counted, draw_of, lanes_of, one_word, run_of, three_words, two_words};
+ghost use Rattle.rx_top.specs.Words.{IsLimited, command_of, draw_of, from_one_to, lanes_of, one_word, run_of, three_words, two_words};
 
 use rx_file::number_of;
 
@@ -76,8 +76,8 @@ fn draw_of(number: &[u8]) -> Option<Command>
 }
 
 /// The number of a number word, if it is from 1 to the most.
-fn counted(most: u32, number: &[u8]) -> Option<u32>
-    ensures value { result ≡ counted most (number_of 20 number.now) }
+fn from_one_to(most: u32, number: &[u8]) -> Option<u32>
+    ensures value { result ≡ from_one_to most (number_of 20 number.now) }
     ensures limits { IfSome result (λ n. (1 ≤ n) × (n ≤ most)) }
 {
     match number_of(number, 20) {
@@ -97,7 +97,10 @@ fn lanes_of(workers: &[u8], jobs: &[u8]) -> Option<Command>
     ensures value { result ≡ lanes_of workers.now jobs.now }
     ensures limits { ForSome result IsLimited }
 {
-    match (counted(MOST_LANES, workers), counted(MOST_JOBS, jobs)) {
+    match (
+        from_one_to(MOST_LANES, workers),
+        from_one_to(MOST_JOBS, jobs),
+    ) {
         (Some(workers), Some(jobs)) => Some(Command::Ask {
             query: Query::Lanes { workers, jobs },
         }),
