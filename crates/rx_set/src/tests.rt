@@ -1,6 +1,6 @@
-// One set, under each policy, and sets that are drawn from numbers.
+// One set, under each policy, one whose tasks share a cell, and sets that are drawn from numbers.
 ghost use Rattle.rx_set.specs.Rows.{pair};
-ghost use Rattle.std.specs.Prelude.{◌≡◌, IfOk};
+ghost use Rattle.std.specs.Prelude.{◌≡◌, IfOk, length};
 
 use super::*;
 use rx_seq::{Call, Kind, Part, Row};
@@ -96,6 +96,45 @@ fn each_policy(rt: HostRuntime) -> Result<(), Fail> {
     Ok(())
 }
 
+/// A task that adds to a cell, and one that works before and after it does.
+fn on_a_cell(alloc: Global) -> Result<TaskSet, Fail>
+    ensures { IfOk result (λ set. length set.tasks ≡ 2) }
+{
+    let cell = Object {
+        name: Name::from("c")?,
+        part: Part {
+            kind: Kind::Cell,
+            cap: 1,
+        },
+    };
+    let short = Task {
+        name: Name::from("a")?,
+        period: 10,
+        deadline: 10,
+        offset: 2,
+        body: Body::of(vec![in alloc; add(1)]?),
+    };
+    let long = Task {
+        name: Name::from("b")?,
+        period: 20,
+        deadline: 20,
+        offset: 0,
+        body: Body::of(vec![in alloc; work(1), add(5), work(1)]?),
+    };
+    let objects = vec![in alloc; cell]?;
+    let tasks = vec![in alloc; short, long]?;
+    Ok(TaskSet::build(Policy::Rm, objects, tasks, Vec::new(alloc)))
+}
+
+#[test]
+fn costs_on_a_cell(rt: HostRuntime) -> Result<(), Fail> {
+    let set = on_a_cell(rt.alloc())?;
+    assert_eq!(rt; set.retry_cost(), 2);
+    assert_eq!(rt; set.cost(0), 2);
+    assert_eq!(rt; set.cost(1), 4);
+    Ok(())
+}
+
 /// Whether a task of the set has this name, period, offset and items, and its period as its deadline.
 fn has_task(
     set: &TaskSet,
@@ -117,11 +156,15 @@ fn has_task(
     }
 }
 
-fn work(n: u64) -> Item {
+fn work(n: u64) -> Item
+    ensures { result ≡ Item.Work n }
+{
     Item::Work { n }
 }
 
-fn add(v: u32) -> Item {
+fn add(v: u32) -> Item
+    ensures { result ≡ Item.Op 0 (Call.Add v) }
+{
     Item::Op {
         object: 0,
         call: Call::Add { v },
