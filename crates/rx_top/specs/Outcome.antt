@@ -218,7 +218,8 @@ Outcome command before after left BadSet = Answered command before after left Ba
 Outcome command before after left Wide = Answered command before after left Wide
 Outcome command before after left Long = Answered command before after left Long
 
--- What a command does to the sink alone once its input is read, and what it leaves: it writes its answer and leaves its bank or its table,
+-- what a command does to the sink alone once its input is read, and what it leaves: it writes its answer, and leaves
+-- its bank or its table
 pub record WritesAll (answer : Answer) (old new : Option (List ℕ)) (before after : ℕ) (left : Left) (result : Status) : Type 0 where
   pub status : result ≡ answer.status
   pub valid : IfSome answer.about IsValid
@@ -227,19 +228,20 @@ pub record WritesAll (answer : Answer) (old new : Option (List ℕ)) (before aft
   pub written : Appends old new answer.output
   pub no_fault : after ≡ before
 
--- or a front of it, since the sink failed, and leaves nothing,
+-- it writes a front of its answer, since the sink failed, and leaves nothing
 pub record WritesFront (answer : Answer) (old new : Option (List ℕ)) (before after : ℕ) (left : Left) : Type 0 where
   pub made : IfSome answer.made IsMade
   pub written : Began old new answer.output
   pub fault : before < after
   pub nothing : left ≡ Nothing
 
--- or nothing, since there was no memory.
+-- it writes nothing, since there was no memory, and leaves nothing
 pub record WritesNothing (old new : Option (List ℕ)) (before after : ℕ) (left : Left) : Type 0 where
   pub written : Keeps old new
   pub no_fault : after ≡ before
   pub nothing : left ≡ Nothing
 
+-- one of these three, by the status
 abbrev pub WritesAnswer : Answer → Option (List ℕ) → Option (List ℕ) → ℕ → ℕ → Left → Status → Type 0
 WritesAnswer answer old new before after left ReadFault = ⊥
 WritesAnswer answer old new before after left WriteFault = WritesFront answer old new before after left
@@ -253,7 +255,7 @@ WritesAnswer answer old new before after left BadSet = WritesAll answer old new 
 WritesAnswer answer old new before after left Wide = WritesAll answer old new before after left Wide
 WritesAnswer answer old new before after left Long = WritesAll answer old new before after left Long
 
--- the same of one of the answers to a history
+-- the same of the answer to some history
 abbrev pub WritesOneAnswer : (List Entry → Answer) → Option (List ℕ) → Option (List ℕ) → ℕ → ℕ → Left → Status → Type 0
 WritesOneAnswer answers old new before after left result = (history : List Entry) × WritesAnswer (answers history) old new before after left result
 
