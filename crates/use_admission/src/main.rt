@@ -5,7 +5,7 @@
 
 ghost use Rattle.rx_set.specs.declared.items.Item.TheVariants.{Op};
 ghost use Rattle.rx_set.specs.declared.policies.Policy.TheVariants.{Rm};
-ghost use Rattle.std.specs.Prelude.{◌≡◌, ◌≤◌, ◌<◌, IfOk, length};
+ghost use Rattle.std.specs.Prelude.{◌≡◌, ◌≤◌, IfOk};
 
 use rx_fixed::{Verdict, least, test};
 use rx_seq::{Call, Kind, Part};
