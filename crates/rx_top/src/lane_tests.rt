@@ -1,6 +1,6 @@
 // The table that lanes leave, and two lanes that meet at a gate.
 use super::*;
-use crate::tests::{Case, SHARED, answer};
+use crate::tests::{Case, Ending, SHARED, answer};
 use rx_lanes::{Gate, NoGate};
 use rx_seq::State;
 use rx_table::Closed;
@@ -60,21 +60,25 @@ fn leaves_the_table_of_the_lanes(rt: HostRuntime) -> Result<(), Fail> {
             value: 6,
         },
     ] {
-        let ending = answer(&rt, rt.alloc(), &Case::new(want.words, SHARED), &NoGate)?;
-        assert_eq!(&rt; ending.status, Status::Done, "{}", want.words);
-        let Left::Closed { closed } = ending.left else {
+        let Ending {
+            status,
+            taken: _taken,
+            left,
+        } = answer(&rt, rt.alloc(), &Case::new(want.words, SHARED), &NoGate)?;
+        assert_eq!(&rt; status, Status::Done, "{} lanes", want.seats);
+        let Left::Closed { closed } = left else {
             return Err("no table".into());
         };
         let Some(found) = left_object(&closed) else {
             return Err("no object".into());
         };
-        assert_eq!(&rt; found.seats, want.seats, "{}", want.words);
-        assert_eq!(&rt; found.tag, want.tag, "{}", want.words);
+        assert_eq!(&rt; found.seats, want.seats, "{} lanes", want.seats);
+        assert_eq!(&rt; found.tag, want.tag, "{} lanes", want.seats);
         assert_eq!(&rt;
             found.state.as_slice(),
             [want.value].as_slice(),
-            "{}",
-            want.words
+            "{} lanes",
+            want.seats
         );
     }
     Ok(())

@@ -449,11 +449,15 @@ fn left_object(
     case: &Case,
     object: u32,
 ) -> Result<LeftObject, Fail> {
-    let ending = answer(rt, alloc, case, &NoGate)?;
-    let Left::Bank { bank } = ending.left else {
+    let Ending {
+        status,
+        taken: _taken,
+        left,
+    } = answer(rt, alloc, case, &NoGate)?;
+    let Left::Bank { bank } = left else {
         return Err("no bank".into());
     };
-    if ending.status != Status::Done || object as usize >= bank.layout().parts().len() {
+    if status != Status::Done || object as usize >= bank.layout().parts().len() {
         return Err("no object".into());
     }
     let mut state = State::new();
@@ -507,13 +511,13 @@ fn leaves_the_events_of_its_run(rt: HostRuntime) -> Result<(), Fail> {
             stores: 0,
             exchanges: want.exchanges,
         };
-        assert_eq!(&rt; found.counts, counts, "{}", want.words);
-        assert_eq!(&rt; found.tag, want.tag, "{}", want.words);
+        assert_eq!(&rt; found.counts, counts, "{} loads", want.loads);
+        assert_eq!(&rt; found.tag, want.tag, "{} loads", want.loads);
         assert_eq!(&rt;
             found.state.as_slice(),
             [want.value].as_slice(),
-            "{}",
-            want.words
+            "{} loads",
+            want.loads
         );
     }
     Ok(())
