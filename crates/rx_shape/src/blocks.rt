@@ -17,12 +17,14 @@ use arrayvec::ArrayVec;
 use rx_seq::{Call, Part, Reply, State, apply};
 
 /// An attempt on a queue, an ordered list or registers in block form. It reads the length and then the numbers in
-/// order, and stops as soon as they tell the reply and that the state stays equal:
+/// order. It stops before the end only where this is said:
 ///
 /// - `Put` and `Take` read the length alone where the queue is full or empty, and else all words.
 /// - `Has` stops at the first number that is not smaller, and so do `Insert` and `Remove` where nothing changes.
-/// - `Read` stops at its register. `Shift` stops at the register that has too little, or where the sum does not fit,
-///   and `Multi` at the register of the first row that differs.
+/// - `Read` stops at its register. `Shift` stops at the register that has too little, and where the sum does not fit or
+///   nothing is moved at the later one of both.
+/// - `Multi` stops where it has the registers of its rows up to the first row that differs. Where no row differs it
+///   reads all registers, even if each row's new value is its old one.
 ///
 /// Words that no state of the part has end it with `Stale` as soon as they are read. A plan that leaves the state equal
 /// writes and trades nothing. Any other plan writes the next state into the own block, and trades the two blocks.

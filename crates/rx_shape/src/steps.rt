@@ -96,7 +96,8 @@ fn is_apart(kind: Kind, earlier: u64, later: u64) -> bool
     }
 }
 
-/// The reply of the call, where the words tell it and that the state stays equal.
+/// The reply of the call, where its walk stops at these words: they tell it, and that the state stays equal. A `Multi`
+/// whose rows all hold has none.
 fn kept_reply(part: Part, call: Call, words: &[u64]) -> Option<Reply>
     requires form { form_of part.kind ≡ block }
     requires fits { fits_part part call ≡ true }
