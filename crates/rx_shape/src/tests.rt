@@ -216,17 +216,31 @@ fn attempts_on_registers(rt: HostRuntime) {
     let found = attempt(registers, multi(6), &words, &mut plan);
     assert_eq!(rt; found, (4, Some(Reply::Done { v: 2 })));
     assert!(rt; writes(&plan, &[3, 1, 2, 4_294_967_295]));
-    let same = Call::Multi {
-        count: 2,
-        rows: [row(0, 5, 5), row(1, 6, 6), Row::default(), Row::default()],
-    };
-    let found = attempt(registers, same, &words, &mut plan);
-    assert_eq!(rt; found, (4, Some(Reply::Done { v: 2 })));
-    assert_eq!(rt; plan.root, pack(8, 10));
-    assert_eq!(rt; plan.writes.len(), 0);
-    assert_eq!(rt; plan.trade.pairs.len(), 0);
     assert_eq!(rt;
         attempt(registers, multi(6), &[2, 5, 6], &mut plan),
         (1, None)
     );
+}
+
+#[test]
+fn multi_of_old_values(rt: HostRuntime) {
+    let registers = Part {
+        kind: Kind::Registers,
+        cap: 2,
+    };
+    let same = Row {
+        i: 0,
+        old: 5,
+        new: 5,
+    };
+    let call = Call::Multi {
+        count: 1,
+        rows: [same, Row::default(), Row::default(), Row::default()],
+    };
+    let mut plan = no_plan();
+    let found = attempt(registers, call, &[2, 5, 6], &mut plan);
+    assert_eq!(rt; found, (3, Some(Reply::Done { v: 1 })));
+    assert_eq!(rt; plan.root, pack(8, 10));
+    assert_eq!(rt; plan.writes.len(), 0);
+    assert_eq!(rt; plan.trade.pairs.len(), 0);
 }

@@ -1,11 +1,13 @@
-// The table that lanes leave, and two lanes that meet at a gate.
+// The table that lanes leave, and lanes that all meet at a gate.
 use super::*;
 use crate::tests::{Case, Ending, SHARED, answer};
 use rx_lanes::{Gate, NoGate};
 use rx_seq::State;
 use rx_table::Closed;
-use std::sync::atomic::{AtomicBool, Ordering};
+use std::sync::atomic::{AtomicBool, AtomicU64, Ordering};
 use std::test::Fail;
+use std::thread::sleep;
+use std::time::Duration;
 
 /// What a closed table of one cell holds: how many seats it has, and the tag and the state of the cell.
 #[derive(Drop)]
@@ -84,45 +86,93 @@ fn leaves_the_table_of_the_lanes(rt: HostRuntime) -> Result<(), Fail> {
     Ok(())
 }
 
-/// Two lanes, each of which says that it is at its first operation, and looks for the other one.
+/// Sixteen tasks that add to one cell.
+const SIXTEEN: &str = r#"
+object = [{name="c", kind="cell"}]
+task = [
+  {name="a", period=10, body=["add c 1"]}, {name="b", period=10, body=["add c 1"]},
+  {name="d", period=10, body=["add c 1"]}, {name="e", period=10, body=["add c 1"]},
+  {name="f", period=10, body=["add c 1"]}, {name="g", period=10, body=["add c 1"]},
+  {name="h", period=10, body=["add c 1"]}, {name="i", period=10, body=["add c 1"]},
+  {name="j", period=10, body=["add c 1"]}, {name="k", period=10, body=["add c 1"]},
+  {name="l", period=10, body=["add c 1"]}, {name="m", period=10, body=["add c 1"]},
+  {name="n", period=10, body=["add c 1"]}, {name="o", period=10, body=["add c 1"]},
+  {name="p", period=10, body=["add c 1"]}, {name="q", period=10, body=["add c 1"]},
+]
+"#;
+
+/// Counts the lanes that are at their first operation. Each waits there for all others, some seconds at the most, and says
+/// so where it waits in vain.
 #[derive(Drop)]
-struct Meeting {
-    here: [AtomicBool; 2],
-    met: [AtomicBool; 2],
+struct Meeting<'a> {
+    rt: &'a HostRuntime,
+    lanes: u64,
+    here: AtomicU64,
+    missed: AtomicBool,
 }
 
-impl Gate for Meeting {
-    fn pass(&self, lane: u32, index: u64) {
-        if index != 1 || lane > 1 {
+impl<'a> Gate for Meeting<'a> {
+    fn pass(&self, _lane: u32, index: u64) {
+        if index != 1 {
             return;
         }
-        let (mine, other) = if lane == 0 { (0, 1) } else { (1, 0) };
-        self.here[mine].store(true, Ordering::SeqCst);
-        for _ in 0..200_000_000 {
-            if self.here[other].load(Ordering::SeqCst) {
-                self.met[mine].store(true, Ordering::SeqCst);
+        let _before = self.here.fetch_add(1, Ordering::SeqCst);
+        for _ in 0..5_000 {
+            if self.here.load(Ordering::SeqCst) == self.lanes
+                || self.missed.load(Ordering::SeqCst)
+            {
                 return;
             }
+            sleep(self.rt, Duration::from_millis(1));
         }
+        self.missed.store(true, Ordering::SeqCst);
     }
+}
+
+/// Lanes of the sixteen tasks, and how many there are.
+#[derive(Clone, Copy)]
+struct MeetingCase {
+    words: &'static str,
+    lanes: u64,
 }
 
 #[test]
-fn two_lanes_meet(rt: HostRuntime) -> Result<(), Fail> {
-    let meeting = Meeting {
-        here: [AtomicBool::new(false), AtomicBool::new(false)],
-        met: [AtomicBool::new(false), AtomicBool::new(false)],
-    };
-    let ending = answer(&rt, rt.alloc(), &Case::new("lanes 2 1", SHARED), &meeting)?;
-    assert_eq!(&rt; ending.status, Status::Done);
-    for lane in 0..2 {
-        assert!(&rt; meeting.met[lane].load(Ordering::SeqCst), "lane {lane}");
+fn lanes_meet(rt: HostRuntime) -> Result<(), Fail> {
+    for MeetingCase { words, lanes } in [
+        MeetingCase {
+            words: "lanes 2 1",
+            lanes: 2,
+        },
+        MeetingCase {
+            words: "lanes 4 1",
+            lanes: 4,
+        },
+        MeetingCase {
+            words: "lanes 8 1",
+            lanes: 8,
+        },
+        MeetingCase {
+            words: "lanes 16 1",
+            lanes: 16,
+        },
+    ] {
+        let meeting = Meeting {
+            rt: &rt,
+            lanes,
+            here: AtomicU64::new(0),
+            missed: AtomicBool::new(false),
+        };
+        let ending = answer(&rt, rt.alloc(), &Case::new(words, SIXTEEN), &meeting)?;
+        assert_eq!(&rt; ending.status, Status::Done, "{words}");
+        assert!(&rt; !meeting.missed.load(Ordering::SeqCst), "{words}");
+        assert_eq!(&rt; meeting.here.load(Ordering::SeqCst), lanes, "{words}");
+        assert!(&rt;
+            ending
+                .taken
+                .as_slice()
+                .ends_with(b"object c cell tag 16 state 16\ntotal calls 16\n"),
+            "{words}"
+        );
     }
-    assert!(&rt;
-        ending
-            .taken
-            .as_slice()
-            .ends_with(b"object c cell tag 2 state 6\ntotal calls 2\n")
-    );
     Ok(())
 }
