@@ -1,7 +1,7 @@
 // Two tasks that add to one cell, by one lane and by several, and gates that lanes pass.
 use super::*;
 use rx_seq::{Call, Kind, NoMemory, Part, State};
-use rx_set::{Body, Item, Name, Object, Policy, Task, TaskSet};
+use rx_set::{Body, Item, Name, Object, Policy, Task, TaskSet, generate};
 use std::alloc::Global;
 use std::array::from_fn;
 use std::process::Abort;
@@ -148,12 +148,8 @@ fn check_counts(rt: &impl Abort, counting: &Counting, workers: u32, want: &[u64]
 #[test]
 fn lanes_count_their_operations(rt: HostRuntime) -> Result<(), Fail> {
     let set = two_tasks(rt.alloc())?;
-    // A lane makes its whole tasks, so that the third and the fourth have none.
-    for (workers, want) in [
-        (1, [150].as_slice()),
-        (2, [100, 50].as_slice()),
-        (4, [100, 50, 0, 0].as_slice()),
-    ] {
+    // A lane makes its whole tasks.
+    for (workers, want) in [(1, [150].as_slice()), (2, [100, 50].as_slice())] {
         let counting = Counting {
             passed: from_fn(|_| AtomicU64::new(0)),
             astray: AtomicBool::new(false),
@@ -164,6 +160,44 @@ fn lanes_count_their_operations(rt: HostRuntime) -> Result<(), Fail> {
         }
         check_counts(&rt, &counting, workers, want);
     }
+    Ok(())
+}
+
+/// How many operations the tasks of a lane of four make in five jobs.
+fn operations_of(set: &TaskSet, lane: usize) -> u64 {
+    let mut count: u64 = 0;
+    for (number, task) in set.tasks().iter().enumerate() {
+        if number % 4 == lane {
+            count = count.saturating_add(task.body.operations() as u64);
+        }
+    }
+    count.saturating_mul(5)
+}
+
+#[test]
+fn each_lane_of_four_counts_its_operations(rt: HostRuntime) -> Result<(), Fail> {
+    // A drawn set that has operations for each of four lanes.
+    let set = match generate(rt.alloc(), 2) {
+        Ok(set) => set,
+        Err(NoMemory) => return Err("no memory".into()),
+    };
+    let counting = Counting {
+        passed: from_fn(|_| AtomicU64::new(0)),
+        astray: AtomicBool::new(false),
+    };
+    if run_lanes(&rt, rt.alloc(), &set, 4, 5, &counting).is_err() {
+        return Err("no memory".into());
+    }
+    let want = [
+        operations_of(&set, 0),
+        operations_of(&set, 1),
+        operations_of(&set, 2),
+        operations_of(&set, 3),
+    ];
+    for lane in 0..4 {
+        assert!(&rt; want[lane] > 0, "lane {lane}");
+    }
+    check_counts(&rt, &counting, 4, &want);
     Ok(())
 }
 
