@@ -109,8 +109,7 @@ impl Ledger {
     }
 
     /// How many retries there are of attempts whose first slot is `a` or later, and whose last one is before `b`. Each is
-    /// a failed compare-and-exchange of a lock-free operation. It looks at each event before `b` once, and finds the end
-    /// of these by halving.
+    /// a failed compare-and-exchange. It looks at each event before `b` once, and finds the end of these by halving.
     pub fn retries(&self, a: u64, b: u64) -> u64
         requires { a ≤ b }
         ensures { result ≡ retries_in any_job a b self.now }

@@ -111,9 +111,9 @@ pub fn attempt(shared: &Shared, seat: &mut Seat, object: u32, call: Call) -> Try
     try_once(&mut machine, &mut shared.port(), seat)
 }
 
-/// Makes attempts of a call on an object that is there and that it fits, until one makes it or the tags are spent: a
-/// lock-free retry loop (Herlihy, 1993). It returns: each lost attempt raises the tag that the seat has seen, and tags
-/// end. It takes no memory and does not wait. Each attempt takes time that grows with the capacity of the object; how many
+/// Makes attempts of a call on an object that is there and that it fits, until one makes it or the tags are spent: the
+/// retry loop of lock-free objects (Herlihy, 1993). It returns: each lost attempt raises the tag that the seat has seen,
+/// and tags end. That some seat gets on is no clause, though a lost attempt shows the entry of another. It takes no memory and does not wait. Each attempt takes time that grows with the capacity of the object; how many
 /// other objects there are does not matter. It builds a machine of about 2,600 bytes; where calls follow one another, a
 /// `Runner` keeps one.
 pub fn operate(shared: &Shared, seat: &mut Seat, object: u32, call: Call) -> Outcome

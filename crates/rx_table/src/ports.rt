@@ -14,9 +14,9 @@ use rx_seq::Call;
 use rx_shape::{Pair, Trade};
 use std::marker::{Brand, Model};
 
-/// A table that is lent for the events of its seats. Each event is one atomic step, and always has room. Threads may
-/// lend one table at once, each with a seat of its own. `decide` takes time that grows with the number of pairs, and each
-/// other event constant time.
+/// A table that is lent for the events of its seats. Each event is one call of `atomic_table`, and so one atomic step
+/// by reading this code, and always has room. Threads may lend one table at once, each with a seat of its own. `decide`
+/// takes time that grows with the number of pairs, and each other event constant time.
 #[derive(Drop)]
 pub struct SharedPort<'a> {
     pub(crate) words: &'a Words,

@@ -78,14 +78,15 @@ const DRAWN_TICKS: u64 = 100_000;
 /// it stands for the history of that schedule. At `Done` of `lanes` it is the closed table of the lanes, where each lane's
 /// seat has the entries of its tasks. In every other case it is `Nothing`, whatever it was before.
 ///
-/// Where the status is another than `ReadFault`, `WriteFault` and `NoMemory`, neither the source nor the sink failed, and
-/// an input that is read and not too large is read to its end. Lines are handed to the sink one at a time, and the rest
-/// of a line again where the sink took less. After a failure no further call of either is made, which no clause says but
-/// tests show. It takes memory for the input and its document, for each word of the bank or of the table, for a machine a
-/// task or a lane, and for `lanes` 16 bytes and two entries for each operation, all of it before the first write, and none
-/// for words of no shape; `gen` takes memory for its events instead of the input. The time is that of reading the file and
-/// of the test, and for each slot that of `Executive::tick` and of its lines; for `lanes` that of `run_lanes`, and for each
-/// operation that of `rx_report::entry_line`.
+/// Where the status is another than `ReadFault`, `WriteFault` and `NoMemory`, neither the source nor the sink failed,
+/// and an input that is read and not too large is read to its end. Lines are handed to the sink one at a time, and the
+/// rest of a line again where the sink took less. After a failure no further call of either is made; no clause says so,
+/// but the conditions of `read` and `write` leave no room for one, and tests show it. It takes memory for the input and
+/// its document, for each word of the bank or of the table, for a machine a task or a lane, and for `lanes` 16 bytes
+/// and two entries for each operation, all of it before the first write, and none for words of no shape; `gen` takes
+/// memory for its events instead of the input. The time is that of reading the file and of the test, and for each slot
+/// that of `Executive::tick` and of its lines; for `lanes` that of `run_lanes`, and for each operation that of
+/// `rx_report::entry_line`.
 /// Wants a count of faults below 2^63 of the source and of the sink.
 pub fn top<R: Threads + Sync, S: Source, K: Sink, G: Gate + Sync>(
     rt: &R,
