@@ -17,7 +17,7 @@ AreLanes board lanes = All (λ lane. IsSeatOf board lane.seat) lanes
 abbrev pub HasOne : Board → Kind → Type 0
 HasOne board kind = board.layout.parts ≡ part_for kind ∷ []
 
--- the seat has so many entries more, and made an exchange for each of them and for each lost attempt
+-- the seat has so many entries more, and made at least an exchange for each of them and for each lost attempt
 pub record HasMade (before now : View) (made retries : ℕ) : Type 0 where
   pub known : Known
   pub is : before.known ≡ Some known

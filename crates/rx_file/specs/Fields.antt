@@ -11,8 +11,8 @@ use Rattle.rx_file.specs.declared.faults.FileFault.TheVariants.{Field, Name, Rep
 use Rattle.rx_file.specs.declared.places.Place.{Place}
 use Rattle.rx_file.specs.Steps.{◌>>=◌}
 
--- the faults of a row: a key that is missing, or holds another type or must not stand; a value out of range; a name
--- that stands twice
+-- the faults of a row: a key that is missing, or holds another type or must not stand; a value out of range; a name,
+-- or an item of a job, that stands twice
 abbrev pub field : Place → Label → FileFault
 field place what = Field place.section place.row what
 

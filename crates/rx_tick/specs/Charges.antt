@@ -9,7 +9,7 @@ pub record IsHeld (system : System) (n : ℕ) (job : Job) (first : ℕ) : Type 0
   pub some : 1 ≤ (so_far system job n).made
   pub begins : (so_far system job n).first ≡ first
 
--- the first preemption of a job after a slot of its own: all slots from that one to this are the job's
+-- the first preemption of a job after a slot of its own: all slots from that one up to this one, which is another job's, are the job's
 pub record IsFirstPreemption (system : System) (first at : ℕ) (job by : Job) : Type 0 where
   pub after : first < at
   pub own : (n : ℕ) → first ≤ n → n < at → who system n ≡ Some job

@@ -82,7 +82,7 @@ in_hand s = record s { released = 0; next = 0 }
 abbrev pub after_slot : System → ℕ → Job → Slot → State → State
 after_slot system now mine slot s = with_progress (length (task_of system mine).items) s (after system mine now slot (progress_of s))
 
--- from now on the task has no unfinished job that is due before this time
+-- the latest released job of the task, where it is unfinished and due now or later, is due at this time or later
 abbrev pub IsBeforeDue : System → ℕ → ℕ → ℕ → State → Type 0
 IsBeforeDue system time watch task s = s.finished < s.released → time ≤ due system (job task s.released) → watch ≤ due system (job task s.released)
 

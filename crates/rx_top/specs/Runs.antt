@@ -24,7 +24,7 @@ pub record AreCounts (system : System) (n : ℕ) (totals : Totals) : Type 0 wher
   pub totals_are : totals ≡ totals_of (slots system n) (events system n)
   pub small : AreBelow (1 + 132 * n) totals
 
--- The ledger has the events of the first n slots, each of which is before time n, and the totals are theirs.
+-- The ledger has the events of the first n slots, each of which is at time n or before, and the totals are theirs.
 pub record AreNoted (system : System) (n : ℕ) (ledger : List Event) (totals : Totals) : Type 0 where
   pub events_are : ledger ≡ events system n
   pub earlier : All (λ event. time_of event ≤ n) ledger

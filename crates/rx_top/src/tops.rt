@@ -306,7 +306,7 @@ fn fault_status(fault: &FileFault) -> Status
     }
 }
 
-/// WritesAnswer the first fault of the input.
+/// Writes the first fault of the input.
 fn refuse_fault<K: Sink>(fault: &FileFault, sink: &mut K) -> Status
     requires faults { K.faults sink.old < 2 ^ 63 }
     requires fault { fault.now ≢ OutOfMemory }
@@ -408,7 +408,7 @@ fn share_set<R: Threads + Sync, K: Sink, G: Gate + Sync>(
     }
 }
 
-/// WritesAnswer what the admission test says of a set.
+/// Writes what the admission test says of a set.
 fn admit_set<K: Sink>(set: &TaskSet, sink: &mut K) -> Status
     requires valid { IsValid set.now }
     requires faults { K.faults sink.old < 2 ^ 63 }
@@ -421,7 +421,7 @@ fn admit_set<K: Sink>(set: &TaskSet, sink: &mut K) -> Status
     }
 }
 
-/// WritesAnswer what the test for fixed priorities says of a set.
+/// Writes what the test for fixed priorities says of a set.
 fn admit_ranks<K: Sink>(set: &TaskSet, sink: &mut K) -> Status
     requires valid { IsValid set.now }
     requires faults { K.faults sink.old < 2 ^ 63 }
@@ -448,7 +448,7 @@ fn edf_status(verdict: EdfVerdict) -> Status
     }
 }
 
-/// WritesAnswer what the test for earliest deadlines first says of a set.
+/// Writes what the test for earliest deadlines first says of a set.
 fn admit_spans<K: Sink>(set: &TaskSet, sink: &mut K) -> Status
     requires valid { IsValid set.now }
     requires faults { K.faults sink.old < 2 ^ 63 }
