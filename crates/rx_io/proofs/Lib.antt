@@ -1,3 +1,4 @@
 mod MemoryRows
+pub mod Calls
 pub mod Puts
 pub mod Reading

@@ -4,11 +4,11 @@ use Rattle.rx_io.specs.Memory.{MemoryIn, MemoryOut, next_call, is_listed, is_ful
 
 -- a source of five bytes in steps of three
 abbrev source : MemoryIn
-source = record { left = 10 ∷ 11 ∷ 12 ∷ 13 ∷ 14 ∷ []; step = 3; fails = []; calls = 0; faults = 0 }
+source = record { left = 10 ∷ 11 ∷ 12 ∷ 13 ∷ 14 ∷ []; step = 3; fails = []; calls = 0; down = false }
 
 -- a sink that has taken four bytes of six, in steps of three
 abbrev sink : MemoryOut
-sink = record { taken = 10 ∷ 11 ∷ 12 ∷ 13 ∷ []; room = 6; step = 3; fails = []; calls = 2; faults = 0 }
+sink = record { taken = 10 ∷ 11 ∷ 12 ∷ 13 ∷ []; room = 6; step = 3; fails = []; calls = 2; down = false }
 
 first_call : next_call 0 ≡ 1
 first_call = refl

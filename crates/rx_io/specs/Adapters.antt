@@ -1,5 +1,5 @@
 -- What a clause reads of an `InSource` and an `OutSink`.
-use Rattle.std.specs.Prelude.{ℕ}
+use Rattle.std.specs.Prelude.{ℕ, Bool}
 use Rattle.rx_io.specs.declared.adapters.InSource.{InSource}
 use Rattle.rx_io.specs.declared.adapters.OutSink.{OutSink}
 
@@ -7,14 +7,14 @@ use Rattle.rx_io.specs.declared.adapters.OutSink.{OutSink}
 abbrev pub in_inner : {R : Type 0} → InSource R → R
 in_inner source = source.inner
 
--- how many errors a source has had of its reader
-abbrev pub in_faults : {R : Type 0} → InSource R → ℕ
-in_faults source = source.faults
+-- whether the latest call of a source failed
+abbrev pub in_down : {R : Type 0} → InSource R → Bool
+in_down source = source.down
 
 -- the writer behind a sink
 abbrev pub out_inner : {W : Type 0} → OutSink W → W
 out_inner sink = sink.inner
 
--- how many errors a sink has had of its writer
-abbrev pub out_faults : {W : Type 0} → OutSink W → ℕ
-out_faults sink = sink.faults
+-- whether the latest call of a sink failed
+abbrev pub out_down : {W : Type 0} → OutSink W → Bool
+out_down sink = sink.down

@@ -1,3 +1,5 @@
-pub mod Adapters
+pub mod Ends
 pub mod Causes
 pub mod Memory
+pub mod Adapters
+pub mod Statuses

@@ -1,27 +1,40 @@
 -- A source and a sink in memory, and what a call makes of them.
-use Rattle.std.specs.Prelude.{◌+◌, ◌-◌, ◌^◌, ◌==◌, ◌&&◌, not, min, ℕ, List, ◌++◌, Bool, length, drop}
+use Rattle.std.specs.Prelude.{◌≡◌, ◌+◌, ◌-◌, ◌^◌, ◌==◌, ◌&&◌, not, min, ℕ, List, ◌++◌, Bool, true, length, drop, Some}
 use Rattle.std.specs.List.{list_any}
+use Rattle.rx_io.specs.Ends.{Transfer, SourceState, SinkState, failures_of}
 
--- what is left, how many bytes a call gives at most, which calls fail, and how many calls and failures there were
+-- what is left, how many bytes a call gives at most, which calls fail, how many calls there were, and whether the latest failed
 pub record MemoryIn : Type 0 where
   pub left : List ℕ
   pub step : ℕ
   pub fails : List ℕ
   pub calls : ℕ
-  pub faults : ℕ
+  pub down : Bool
 
--- what was taken, how many bytes at most in all and in a call, which calls fail, and how many calls and failures there were
+-- what was taken, how many bytes at most in all and in a call, which calls fail, how many calls there were, and whether the latest failed
 pub record MemoryOut : Type 0 where
   pub taken : List ℕ
   pub room : ℕ
   pub step : ℕ
   pub fails : List ℕ
   pub calls : ℕ
-  pub faults : ℕ
+  pub down : Bool
 
 -- the number of the next call, which stands still at the end of a word of 64 bits
 abbrev pub next_call : ℕ → ℕ
 next_call calls = min (calls + 1) (2 ^ 64 - 1)
+
+-- calls are counted up to the end of a word of 64 bits
+abbrev pub AreCounted : ℕ → List Transfer → Type 0
+AreCounted calls past = calls ≡ min (length past) (2 ^ 64 - 1)
+
+-- what a source in memory tells: the bytes left, and how many calls were made
+abbrev pub source_state : MemoryIn → SourceState
+source_state source = record { left = Some source.left; calls = AreCounted source.calls; failures = failures_of source.down }
+
+-- what a sink in memory tells: the bytes taken, and how many calls were made
+abbrev pub sink_state : MemoryOut → SinkState
+sink_state sink = record { taken = Some sink.taken; calls = AreCounted sink.calls; refuses = λ piece. Unit {0}; failures = failures_of sink.down }
 
 -- the call of this number is one that fails
 abbrev pub is_listed : ℕ → List ℕ → Bool
@@ -37,7 +50,7 @@ after_read source count = record source { left = drop count source.left; calls =
 
 -- the source after a read that failed
 abbrev pub after_failed_read : MemoryIn → MemoryIn
-after_failed_read source = record source { calls = next_call source.calls; faults = source.faults + 1 }
+after_failed_read source = record source { calls = next_call source.calls; down = true }
 
 -- there is no room for any byte of the piece
 abbrev pub is_full : MemoryOut → List ℕ → Bool
@@ -53,4 +66,4 @@ after_write sink bytes = record sink { taken = sink.taken ++ bytes; calls = next
 
 -- the sink after a write that failed
 abbrev pub after_failed_write : MemoryOut → MemoryOut
-after_failed_write sink = record sink { calls = next_call sink.calls; faults = sink.faults + 1 }
+after_failed_write sink = record sink { calls = next_call sink.calls; down = true }

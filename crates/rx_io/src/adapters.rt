@@ -1,9 +1,10 @@
 //! A reader and a writer of std as a source and a sink.
-ghost use Rattle.std.specs.Prelude.{◌≡◌, ◌<◌, ◌≤◌, ◌+◌, ◌^◌, length, IfOk, OnErr};
+ghost use Rattle.std.specs.Prelude.{◌≡◌, ◌<◌, ◌≤◌, false, length, IfOk, OnErr};
 ghost use Rattle.std.specs.Io.{ReadsAtMost, WritesAtMost};
 ghost use Rattle.std.specs.Io.KnownBytes.{ReadConsumes, WriteAppends};
+ghost use Rattle.rx_io.specs.Ends.{IsCalled, MayBeCalled, failures_of};
 ghost use Rattle.rx_io.specs.Causes.{HasCause};
-ghost use Rattle.rx_io.specs.Adapters.{in_inner, in_faults, out_inner, out_faults};
+ghost use Rattle.rx_io.specs.Adapters.{in_down, in_inner, out_down, out_inner};
 
 use crate::traits::{Failed, Sink, Source};
 use std::io::{Read, Write};
@@ -14,16 +15,16 @@ use std::io::{Read, Write};
 #[derive(Drop)]
 pub struct InSource<R: Read> {
     inner: R,
-    faults: u64,
+    down: bool,
 }
 
 impl<R: Read> InSource<R> {
     /// A source over `inner` with a count of 0. Takes no memory.
     pub fn new(inner: R) -> InSource<R>
         ensures inner { in_inner result ≡ inner }
-        ensures faults { in_faults result ≡ 0 }
+        ensures up { in_down result ≡ false }
     {
-        InSource { inner, faults: 0 }
+        InSource { inner, down: false }
     }
 
     /// Gives the reader back.
@@ -35,23 +36,25 @@ impl<R: Read> InSource<R> {
 }
 
 impl<R: Read> Source for InSource<R> {
-    ghost left = { λ s. R.remaining (in_inner s) };
-
-    ghost faults = { in_faults };
+    ghost tells = { λ s. record {
+      left = R.remaining (in_inner s);
+      calls = λ past. Unit {0};
+      failures = failures_of (in_down s);
+    } };
 
     /// One call of the reader. The count rises by 1 at each of its errors.
     fn read(&mut self, buf: &mut [u8]) -> Result<usize, Failed>
-        requires { in_faults self.old < 2 ^ 63 }
+        requires { MayBeCalled (failures_of (in_down self.old)) }
         ensures bound { ReadsAtMost result buf.new }
         ensures bytes { ReadConsumes (R.remaining (in_inner self.old)) (R.remaining (in_inner self.new))
             result buf.new }
-        ensures cause { HasCause (in_faults self.old) (in_faults self.new) result }
-        ensures one_more { OnErr result (in_faults self.new ≡ in_faults self.old + 1) }
+        ensures call { IsCalled (λ past. Unit {0}) (λ past. Unit {0}) (length buf.old) result }
+        ensures cause { HasCause (failures_of (in_down self.old)) (failures_of (in_down self.new)) result }
     {
         match self.inner.read(buf) {
             Ok(count) => Ok(count),
             Err(_) => {
-                self.faults += 1;
+                self.down = true;
                 Err(Failed)
             }
         }
@@ -66,16 +69,16 @@ impl<R: Read> Source for InSource<R> {
 #[derive(Drop)]
 pub struct OutSink<W: Write> {
     inner: W,
-    faults: u64,
+    down: bool,
 }
 
 impl<W: Write> OutSink<W> {
     /// A sink over `inner` with a count of 0. Takes no memory.
     pub fn new(inner: W) -> OutSink<W>
         ensures inner { out_inner result ≡ inner }
-        ensures faults { out_faults result ≡ 0 }
+        ensures up { out_down result ≡ false }
     {
-        OutSink { inner, faults: 0 }
+        OutSink { inner, down: false }
     }
 
     /// Gives the writer back. It is not flushed.
@@ -87,25 +90,29 @@ impl<W: Write> OutSink<W> {
 }
 
 impl<W: Write> Sink for OutSink<W> {
-    ghost taken = { λ s. W.contents (out_inner s) };
-
-    ghost faults = { out_faults };
+    ghost tells = { λ s. record {
+      taken = W.contents (out_inner s);
+      calls = λ past. Unit {0};
+      refuses = λ piece. Unit {0};
+      failures = failures_of (out_down s);
+    } };
 
     /// One call of the writer. The count rises by 1 at each of its errors, and where it took 0 bytes of a piece that
     /// has a byte.
     fn write(&mut self, piece: &[u8]) -> Result<usize, Failed>
-        requires { out_faults self.old < 2 ^ 63 }
+        requires { MayBeCalled (failures_of (out_down self.old)) }
         ensures bound { WritesAtMost result piece.now }
         ensures some { 0 < length piece.now → IfOk result (λ n. 1 ≤ n) }
         ensures bytes { WriteAppends (W.contents (out_inner self.old)) (W.contents (out_inner self.new))
             result piece.now }
-        ensures cause { HasCause (out_faults self.old) (out_faults self.new) result }
-        ensures one_more { OnErr result (out_faults self.new ≡ out_faults self.old + 1) }
+        ensures call { IsCalled (λ past. Unit {0}) (λ past. Unit {0}) (length piece.now) result }
+        ensures refusal { OnErr result Unit }
+        ensures cause { HasCause (failures_of (out_down self.old)) (failures_of (out_down self.new)) result }
     {
         match self.inner.write(piece) {
             Ok(count) if count > 0 || piece.is_empty() => Ok(count),
             _ => {
-                self.faults += 1;
+                self.down = true;
                 Err(Failed)
             }
         }

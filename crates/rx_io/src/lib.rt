@@ -8,6 +8,7 @@
 mod adapters;
 mod memory;
 mod reads;
+mod status;
 #[cfg(test)]
 mod tests;
 mod traits;
@@ -16,5 +17,6 @@ mod writes;
 pub use adapters::{InSource, OutSink};
 pub use memory::{MemorySink, MemorySource};
 pub use reads::{ReadError, read_all};
+pub use status::Status;
 pub use traits::{Failed, NoMemory, Sink, Source};
 pub use writes::put;

@@ -1,10 +1,10 @@
 //! A source and a sink in memory.
-ghost use Rattle.std.specs.Prelude.{◌≡◌, ◌<◌, ◌≤◌, ◌^◌, [], ◌++◌, ◌||◌, length, take, drop, is_err, IfOk, OnErr};
-ghost use Rattle.std.specs.declared.option.Option.TheVariants.{Some};
+ghost use Rattle.std.specs.Prelude.{◌≡◌, ◌<◌, ◌≤◌, [], ◌++◌, ◌||◌, false, length, take, drop, is_err, IfOk, OnErr, Some};
 ghost use Rattle.std.specs.Io.{ReadsAtMost, WritesAtMost};
 ghost use Rattle.std.specs.Io.KnownBytes.{ReadConsumes, WriteAppends};
+ghost use Rattle.rx_io.specs.Ends.{IsCalled, MayBeCalled, failures_of};
 ghost use Rattle.rx_io.specs.Causes.{HasCause};
-ghost use Rattle.rx_io.specs.Memory.{next_call, is_listed, is_full, given_count, after_read, after_failed_read, taken_count, after_write, after_failed_write};
+ghost use Rattle.rx_io.specs.Memory.{AreCounted, source_state, sink_state, next_call, is_listed, is_full, given_count, after_read, after_failed_read, taken_count, after_write, after_failed_write};
 
 use crate::traits::{Failed, NoMemory, Sink, Source};
 use std::alloc::Global;
@@ -18,7 +18,7 @@ pub struct MemorySource {
     step: usize,
     fails: Vec<u64>,
     calls: u64,
-    faults: u64,
+    down: bool,
 }
 
 impl Model for MemorySource {
@@ -32,7 +32,7 @@ impl Model for MemorySource {
       step = s.step;
       fails = s.fails.items;
       calls = s.calls;
-      faults = s.faults;
+      down = s.down;
     } };
 
     ghost invariant = { λ s. (s.at ≤ vec_len s.bytes) × (1 ≤ s.step) };
@@ -42,7 +42,8 @@ impl MemorySource {
     /// A source of these bytes that gives at most `step` bytes a call, and fails exactly in its calls whose numbers,
     /// from 1, are in `fails`. A call that fails gives nothing and counts as a call.
     ///
-    /// The number of the call stands still at 2^64 - 1. Takes no memory. Wants a `step` of 1 or more. A call of `read`
+    /// A source that failed is called no more, so of several numbers the least has a meaning alone. The number of the
+    /// call stands still at 2^64 - 1. Takes no memory. Wants a `step` of 1 or more. A call of `read`
     /// copies what it gives and looks through all of `fails`.
     pub fn new(bytes: Vec<u8>, step: usize, fails: Vec<u64>) -> MemorySource
         requires { 1 ≤ step }
@@ -51,7 +52,7 @@ impl MemorySource {
           step = step;
           fails = fails.items;
           calls = 0;
-          faults = 0;
+          down = false;
         } }
     {
         MemorySource {
@@ -60,22 +61,28 @@ impl MemorySource {
             step,
             fails,
             calls: 0,
-            faults: 0,
+            down: false,
         }
+    }
+
+    /// How many calls were made so far, those that failed among them. It stands still at 2^64 - 1. Costs nothing.
+    pub fn calls(&self) -> u64
+        ensures { result ≡ self.now.calls }
+    {
+        self.calls
     }
 }
 
 impl Source for MemorySource {
-    ghost left = { λ s. Some s.left };
-
-    ghost faults = { λ s. s.faults };
+    ghost tells = { source_state };
 
     /// Gives as many bytes as the least of the step, the buffer's length and the bytes left.
     fn read(&mut self, buf: &mut [u8]) -> Result<usize, Failed>
-        requires { self.old.faults < 2 ^ 63 }
+        requires { MayBeCalled (failures_of self.old.down) }
         ensures bound { ReadsAtMost result buf.new }
         ensures bytes { ReadConsumes (Some self.old.left) (Some self.new.left) result buf.new }
-        ensures cause { HasCause self.old.faults self.new.faults result }
+        ensures call { IsCalled (AreCounted self.old.calls) (AreCounted self.new.calls) (length buf.old) result }
+        ensures cause { HasCause (failures_of self.old.down) (failures_of self.new.down) result }
 
         // It fails exactly in the calls that are listed.
         ensures listed { is_err result ≡ is_listed (next_call self.old.calls) self.old.fails }
@@ -89,7 +96,7 @@ impl Source for MemorySource {
     {
         self.calls = self.calls.saturating_add(1);
         if self.fails.contains(&self.calls) {
-            self.faults += 1;
+            self.down = true;
             return Err(Failed);
         }
         let count = self.step.min(buf.len()).min(self.bytes.len() - self.at);
@@ -107,7 +114,7 @@ pub struct MemorySink {
     step: usize,
     fails: Vec<u64>,
     calls: u64,
-    faults: u64,
+    down: bool,
 }
 
 impl Model for MemorySink {
@@ -122,7 +129,7 @@ impl Model for MemorySink {
       step = s.step;
       fails = s.fails.items;
       calls = s.calls;
-      faults = s.faults;
+      down = s.down;
     } };
 
     ghost invariant = { λ s. (vec_len s.bytes ≤ s.room) × (s.room ≤ vec_capacity s.bytes) × (1 ≤ s.step) };
@@ -133,7 +140,8 @@ impl MemorySink {
     /// whose numbers, from 1, are in `fails`, and in those with a piece of a byte or more once `room` bytes are taken.
     /// A call that fails takes nothing and counts as a call.
     ///
-    /// The number of the call stands still at 2^64 - 1. Takes the memory for `room` bytes at once, so that `write`
+    /// A sink that failed is called no more, so of several numbers the least has a meaning alone. The number of the call
+    /// stands still at 2^64 - 1. Takes the memory for `room` bytes at once, so that `write`
     /// takes none, and answers `NoMemory` where it was refused. Wants a `step` of 1 or more. A call of `write` copies
     /// what it takes and looks through all of `fails`.
     pub fn new(
@@ -149,7 +157,7 @@ impl MemorySink {
           step = step;
           fails = fails.items;
           calls = 0;
-          faults = 0;
+          down = false;
         }) }
     {
         match Vec::with_capacity(alloc, room) {
@@ -159,7 +167,7 @@ impl MemorySink {
                 step,
                 fails,
                 calls: 0,
-                faults: 0,
+                down: false,
             }),
             Err(_) => Err(NoMemory),
         }
@@ -171,20 +179,27 @@ impl MemorySink {
     {
         self.bytes.as_slice()
     }
+
+    /// How many calls were made so far, those that failed among them. It stands still at 2^64 - 1. Costs nothing.
+    pub fn calls(&self) -> u64
+        ensures { result ≡ self.now.calls }
+    {
+        self.calls
+    }
 }
 
 impl Sink for MemorySink {
-    ghost taken = { λ s. Some s.taken };
-
-    ghost faults = { λ s. s.faults };
+    ghost tells = { sink_state };
 
     /// Takes as many bytes as the least of the step, the room left and the piece's length. Takes no memory.
     fn write(&mut self, piece: &[u8]) -> Result<usize, Failed>
-        requires { self.old.faults < 2 ^ 63 }
+        requires { MayBeCalled (failures_of self.old.down) }
         ensures bound { WritesAtMost result piece.now }
         ensures some { 0 < length piece.now → IfOk result (λ n. 1 ≤ n) }
         ensures bytes { WriteAppends (Some self.old.taken) (Some self.new.taken) result piece.now }
-        ensures cause { HasCause self.old.faults self.new.faults result }
+        ensures call { IsCalled (AreCounted self.old.calls) (AreCounted self.new.calls) (length piece.now) result }
+        ensures refusal { OnErr result Unit }
+        ensures cause { HasCause (failures_of self.old.down) (failures_of self.new.down) result }
 
         // It fails exactly in the calls that are listed, and where there is no room.
         ensures refused { is_err result
@@ -198,7 +213,7 @@ impl Sink for MemorySink {
         self.calls = self.calls.saturating_add(1);
         let room = self.room - self.bytes.len();
         if self.fails.contains(&self.calls) || (room == 0 && !piece.is_empty()) {
-            self.faults += 1;
+            self.down = true;
             return Err(Failed);
         }
         let count = self.step.min(room).min(piece.len());

@@ -1,5 +1,6 @@
 //! Handing a piece to a sink until all of it is taken.
-ghost use Rattle.std.specs.Prelude.{◌<◌, ◌^◌};
+ghost use Rattle.std.specs.Prelude.{[], ◌∷◌};
+ghost use Rattle.rx_io.specs.Ends.{MayBeCalled};
 ghost use Rattle.rx_io.specs.Causes.{Puts};
 
 use crate::traits::{Failed, Sink};
@@ -10,16 +11,12 @@ use crate::traits::{Failed, Sink};
 /// then a front of `piece` was taken. Takes no memory; one call of the sink for each part that it takes, so at most one
 /// a byte, and none for an empty piece. Wants a count of faults below 2^63.
 pub fn put<K: Sink>(sink: &mut K, piece: &[u8]) -> Result<(), Failed>
-    requires { K.faults sink.old < 2 ^ 63 }
-    ensures { Puts (K.taken sink.old) (K.taken sink.new)
-        (K.faults sink.old) (K.faults sink.new) result piece.now }
+    requires { MayBeCalled (K.tells sink.old).failures }
+    ensures { Puts (K.tells sink.old) (K.tells sink.new) result (piece.now ∷ []) }
 {
     let mut at = 0;
     while at < piece.len() {
-        match sink.write(&piece[at..]) {
-            Ok(count) => at += count,
-            Err(Failed) => return Err(Failed),
-        }
+        at += sink.write(&piece[at..])?;
     }
     Ok(())
 }

@@ -1,17 +1,23 @@
-use Rattle.rx_io.proofs.Puts.{put_more, put_within, put_failed}
+use Rattle.std.proofs.Common.{◌<◌, ◌≤◌, ◌∙◌, length, refl, arith}
+use Rattle.rx_io.specs.Ends.{SinkState}
+use Rattle.rx_io.proofs.Puts.{put_calls, put_more, put_refused, put_whole, put_within, puts_failed}
 use Rattle.rx_io.proofs.writes.put.Goals as goal
-use Rattle.std.proofs.Common.{rules, ◌∙◌}
 
-pub returns-in-Err : goal.returns-in-Err
-returns-in-Err g c = record {
-  whole = search rules;
-  part = put_failed _ _ _ c.loop-at.at c.args.piece.now c.loop-at.invariant.taken c.in-Err.ensures.bytes;
-  cause = search rules;
-}
+pub returns-in_err-at : goal.returns-in_err-at
+returns-in_err-at g c =
+    let inside : c.loop-at.at < length c.args.piece.now = omega (arith, c.loop-at-test.true) in
+    puts_failed _ _ c.from_residual.result _ c.from_residual.ensures.0
+    (put_refused (g.K.Sink.tells c.args.sink.now) (g.K.Sink.tells c.loop-at.sink) (g.K.Sink.tells c.write.new.self) c.loop-at.at _ c.args.piece.now inside refl
+    c.loop-at.invariant.bytes c.in_err-at.ensures.bytes c.loop-at.invariant.calls c.in_err-at.ensures.call c.loop-at.invariant.kept c.in_err-at.ensures.refusal c.in_err-at.ensures.cause.failed)
 
 pub loop-at-preserved : goal.loop-at-preserved
-loop-at-preserved g c = record {
-  within = put_within _ _ _ c.loop-at.invariant.within c.in-Ok.ensures.bound;
-  taken = put_more _ _ _ _ _ _ c.loop-at.invariant.taken c.in-Ok.ensures.bytes;
-  faults = c.in-Ok.ensures.cause.kept ∙ c.loop-at.invariant.faults;
-}
+loop-at-preserved g c =
+    let a : SinkState = g.K.Sink.tells c.args.sink.now in
+    let b : SinkState = g.K.Sink.tells c.loop-at.sink in
+    let now : SinkState = g.K.Sink.tells c.write.new.self in
+    let inside : c.loop-at.at < length c.args.piece.now = omega (arith, c.loop-at-test.true) in record {
+      within = put_within c.loop-at.at c.in_ok-at.field-0 c.args.piece.now c.loop-at.invariant.within c.in_ok-at.ensures.bound;
+      bytes = put_more a b now c.loop-at.at _ c.args.piece.now inside refl c.in_ok-at.field-0 c.loop-at.invariant.bytes c.in_ok-at.ensures.bytes;
+      calls = put_calls a b now c.loop-at.at _ c.args.piece.now inside refl c.in_ok-at.field-0 c.loop-at.invariant.calls c.in_ok-at.ensures.call;
+      kept = c.in_ok-at.ensures.cause.kept ∙ c.loop-at.invariant.kept;
+    }

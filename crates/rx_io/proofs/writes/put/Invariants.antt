@@ -1,12 +1,15 @@
-use Rattle.std.proofs.Common.{◌≡◌, ◌≤◌, ◌-◌, length, take}
+use Rattle.std.proofs.Common.{◌≡◌, ◌≤◌, ◌-◌, [], ◌∷◌, length, take}
 use Rattle.std.specs.Io.KnownBytes.{Appends}
+use Rattle.rx_io.specs.Ends.{AreCalled, moved_in}
+use Rattle.rx_io.specs.Causes.{ArePieces}
 use Rattle.rx_io.proofs.writes.put.Given as goal
 
 abbrev pub invariant-loop-at : goal.invariant-loop-at
 invariant-loop-at g l = record {
   within : l.at ≤ length l.piece;
-  taken : Appends (g.K.Sink.taken l.initial.sink) (g.K.Sink.taken l.sink) (take l.at l.piece);
-  faults : g.K.Sink.faults l.sink ≡ g.K.Sink.faults l.initial.sink;
+  bytes : Appends (g.K.Sink.tells l.initial.sink).taken (g.K.Sink.tells l.sink).taken (take l.at l.piece);
+  calls : AreCalled (g.K.Sink.tells l.initial.sink).calls (g.K.Sink.tells l.sink).calls (λ calls. ArePieces (l.piece ∷ []) calls × (moved_in calls ≡ l.at));
+  kept : (g.K.Sink.tells l.sink).failures ≡ (g.K.Sink.tells l.initial.sink).failures;
 }
 
 abbrev pub decreases-loop-at : goal.decreases-loop-at

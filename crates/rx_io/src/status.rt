@@ -1,8 +1,8 @@
 //! How a call ends.
 ghost use Rattle.std.specs.Prelude.{◌≡◌};
-ghost use Rattle.rx_top.specs.Outcome.{code_of};
+ghost use Rattle.rx_io.specs.Statuses.{code_of};
 
-/// How a call of `top` ends. `code` gives each its exit status.
+/// How a call of the program ends. `code` gives each its exit status.
 #[derive(Clone, Copy, Debug, PartialEq, Eq)]
 pub enum Status {
     /// The whole report was written: of `run`, one that tells no miss, and of `admit`, that the test says yes.
