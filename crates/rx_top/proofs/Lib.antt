@@ -4,7 +4,8 @@ pub mod NoMisses
 pub mod Lines
 pub mod Sharing
 pub mod Noting
-pub mod Outcomes
-pub mod Drawings
 pub mod Writes
 pub mod NewBanks
+pub mod Endings
+pub mod Determinations
+pub mod Outcomes

@@ -1,13 +1,9 @@
--- From the outcome of a call to the one answer that it gives.
-use Rattle.std.proofs.Common.{ℕ, ◌≡◌, ◌≢◌, ◌≤◌, ◌<◌, ◌+◌, ◌==◌, ◌↔◌, inl, inr, codes, get_or, if◌then◌else◌, Bool, true, false, List, [], ◌++◌, length, drop, Option, Some, None, IfSome, refl, sym, ap, ◌∙◌, subst, append-nil, true≢false, slice_get, arith}
-use Rattle.std.proofs.Math.Seq.{drop-append_seam}
+-- From the answer that a call gives to what each command promises.
+use Rattle.std.proofs.Common.{ℕ, ◌≡◌, ◌≢◌, ◌≤◌, ◌<◌, ◌+◌, ◌==◌, ◌↔◌, inl, inr, codes, get_or, if◌then◌else◌, Bool, true, false, List, [], ◌++◌, length, drop, Option, Some, None, IfSome, Result, is_ok, refl, sym, ap, ◌∙◌, subst, append-nil, true≢false, slice_get, arith}
 use Rattle.std.proofs.Math.ListN.{drop_of_length-le}
-use Rattle.std.proofs.lemmas.Bool.{cases_lt, lt-leb, le-leb}
-use Rattle.std.proofs.lemmas.List.{length-append}
 use Rattle.std.proofs.lemmas.Option.{slice_get-map}
 use Rattle.std.specs.Option.{option_map}
-use Rattle.std.specs.Io.KnownBytes.{Appends}
-use Rattle.rx_io.specs.Causes.{IsInput}
+use Rattle.rx_io.specs.Causes.{Takes}
 use Rattle.rx_set.specs.declared.policies.Policy.{Policy}
 use Rattle.rx_set.specs.declared.policies.Policy.TheVariants.{Rm, Dm, Edf}
 use Rattle.rx_seq.specs.Legal.{IsLegal}
@@ -34,12 +30,10 @@ use Rattle.rx_top.specs.Drawn.{drawn_ticks}
 use Rattle.rx_file.specs.SetOf.{set_of}
 use Rattle.rx_top.specs.declared.left.Left.{Left}
 use Rattle.rx_top.specs.declared.left.Left.TheVariants.{Nothing, Bank, Closed}
-use Rattle.rx_top.specs.declared.status.Status.{Status}
-use Rattle.rx_top.specs.declared.status.Status.TheVariants.{Done, Adverse, Words, ReadFault, TooLarge, NotToml, BadSet, WriteFault, NoMemory, Wide, Long}
+use Rattle.rx_io.specs.declared.status.Status.{Status}
+use Rattle.rx_io.specs.declared.status.Status.TheVariants.{Done, Adverse, Wide, Long}
 use Rattle.rx_seq.specs.declared.entries.Entry.{Entry}
 use Rattle.rx_top.specs.declared.words.Command.{Command}
-use Rattle.rx_top.specs.declared.words.Command.TheVariants.{Ask, Draw}
-use Rattle.rx_top.specs.declared.words.Query.TheVariants.{Run, Admit, Lanes}
 use Rattle.rx_top.specs.Words.{reads_input, uses_threads}
 use Rattle.rx_set.specs.declared.items.Item.TheVariants.{Op}
 use Rattle.rx_set.specs.Operations.{Asked, asked_of, script_of}
@@ -50,152 +44,11 @@ use Rattle.rx_report.specs.LaneLines.{entry_item, entry_job}
 use Rattle.rx_top.specs.LaneReport.{TellsCalls}
 use Rattle.rx_top.specs.Leaves.{LeaveBank, Leaves}
 use Rattle.rx_top.specs.Tests.{test_line_by}
-use Rattle.rx_top.specs.Outcome.{Ends, Answer, answer, admit_answer, admit_status_by, draw_answer, edf_status, fixed_status, input_answer, file_answer, large_answer, lanes_answer, run_answer, set_answer, most_input, Outcome, Answered, Headline, Admission, Sharing, Drawing, AnswersServed, AnswersFits, MeansTest, SaysYes, Charges, ChargesRanks}
-use Rattle.rx_top.specs.Determined.{is_answered, IsDetermined, SomeOrEach, Determined, Unread}
-
--- all inputs of too many bytes have one answer
-too_large : (of_set : System → Answer) (input : List ℕ) → most_input < length input → input_answer of_set input ≡ large_answer
-too_large of_set input h = rw (lt-leb (length input) most_input h) refl
-
--- and any other has the answer of its file
-fits : (of_set : System → Answer) (input : List ℕ) → length input ≤ most_input → input_answer of_set input ≡ file_answer of_set (set_of input)
-fits of_set input h = rw (le-leb (length input) most_input h) refl
-
--- whatever a command makes of a set
-same_when_large : (command : Option Command) (history : List Entry) (a b : List ℕ) → reads_input command ≡ true → most_input < length a → most_input < length b → answer command history a ≡ answer command history b
-same_when_large None history a b reads first second = absurd (true≢false (sym reads))
-same_when_large (Some (Ask query)) history a b reads first second = too_large (set_answer query history) a first ∙ sym (too_large (set_answer query history) b second)
-same_when_large (Some (Draw number)) history a b reads first second = refl
-
--- what is not read has no part in the answer, and no history has
-same_unread : (command : Option Command) (history other : List Entry) (a b : List ℕ) → reads_input command ≡ false → answer command history a ≡ answer command other b
-same_unread None history other a b unread = refl
-same_unread (Some (Ask query)) history other a b unread = absurd (true≢false unread)
-same_unread (Some (Draw number)) history other a b unread = refl
-
--- nor has one where threads have no part
-same_without_threads : (command : Option Command) (history other : List Entry) (input : List ℕ) → uses_threads command ≡ false → answer command history input ≡ answer command other input
-same_without_threads None history other input alone = refl
-same_without_threads (Some (Ask (Run ticks))) history other input alone = refl
-same_without_threads (Some (Ask Admit)) history other input alone = refl
-same_without_threads (Some (Ask (Lanes workers jobs))) history other input alone = absurd (true≢false alone)
-same_without_threads (Some (Draw number)) history other input alone = refl
-
--- what holds of one history, and what of all
-some_or_each : (b : Bool) (P : List Entry → Type 0) → ((history : List Entry) × P history) → ((history other : List Entry) → b ≡ false → P history → P other) → SomeOrEach b P
-some_or_each true P found same = found
-some_or_each false P found same = λ other. same found.0 other refl found.1
-
-some_of : (b : Bool) (P : List Entry → Type 0) → b ≡ true → SomeOrEach b P → (history : List Entry) × P history
-some_of true P threads told = told
-some_of false P threads told = absurd (true≢false (sym threads))
-
-all_of : (b : Bool) (P : List Entry → Type 0) → b ≡ false → SomeOrEach b P → (history : List Entry) → P history
-all_of true P alone told = absurd (true≢false alone)
-all_of false P alone told = told
-
--- The answer to what was read is the answer to the whole input, of which all is left that was not read.
-pub record IsWhole (command : Option Command) (history : List Entry) (input given : List ℕ) (new : Option (List ℕ)) : Type 0 where
-  pub same : answer command history given ≡ answer command history input
-  pub rest : new ≡ Some (drop (most_input + 1) input)
-
--- the end was reached
-read_small : (command : Option Command) (history : List Entry) (input given rest : List ℕ) → input ≡ given ++ rest → length given ≤ most_input → rest ≡ [] → IsWhole command history input given (Some rest)
-read_small command history input given rest e few end =
-    let all : given ≡ input = sym (append-nil given) ∙ ap (λ r. given ++ r) (sym end) ∙ sym e in record {
-      same = ap (answer command history) all;
-      rest = ap (λ (r : List ℕ). Some r) (end ∙ sym (drop_of_length-le input {i = most_input + 1} (omega (arith, few, ap length all))));
-    }
-
--- it was not
-read_large : (command : Option Command) (history : List Entry) (input given rest : List ℕ) → reads_input command ≡ true → input ≡ given ++ rest → length given ≡ most_input + 1 → IsWhole command history input given (Some rest)
-read_large command history input given rest reads e full = record {
-  same = same_when_large command history given input reads (omega arith) (omega (arith, ap length e, length-append given rest));
-  rest = ap (λ (r : List ℕ). Some r) (sym (ap (drop (most_input + 1)) e ∙ ap (λ n. drop n (given ++ rest)) (sym full) ∙ drop-append_seam given rest));
-}
-
-read_whole : (command : Option Command) (history : List Entry) (input given : List ℕ) (new : Option (List ℕ)) → reads_input command ≡ true → IsInput most_input (Some input) new given → IsWhole command history input given new
-read_whole command history input given None reads read = absurd read.taken
-read_whole command history input given (Some rest) reads read =
-    elim (cases_lt most_input (length given)) [
-      | inl more ↦ read_large command history input given rest reads read.taken (omega (arith, more, read.few))
-      | inr few ↦ read_small command history input given rest read.taken few (read.end few)
-    ]
-
-module _ (command : Option Command) (before after : Ends) (left : Left) where
-  -- what is told of one answer holds of an equal one
-  determined_by : (history other : List Entry) (given input : List ℕ) (result : Status) (rest : Option (List ℕ)) → answer command history given ≡ answer command other input
-      → IsDetermined command history given before after left result rest → IsDetermined command other input before after left result rest
-  determined_by history other given input result rest same told = record {
-    status = told.status ∙ ap (λ (a : Answer). a.status) same;
-    written = subst (λ (a : Answer). Appends before.taken after.taken a.output) same told.written;
-    valid = subst (λ (a : Answer). IfSome a.about IsValid) same told.valid;
-    made = subst (λ (a : Answer). IfSome a.made IsMade) same told.made;
-    leaves = subst (λ (a : Answer). Leaves a.leaves left) same told.leaves;
-    unread = told.unread;
-  }
-
-  -- what was answered, of the input that was read
-  determined_read : (result : Status) (rest : Option (List ℕ)) (told : Answered command before after left result) → after.left ≡ rest → IsDetermined command told.history told.input before after left result rest
-  determined_read result rest told unread = record {
-    status = told.answer.status;
-    written = subst (Appends before.taken after.taken) told.answer.bytes told.written;
-    valid = told.valid;
-    made = told.answer.made;
-    leaves = told.leaves;
-    unread = unread;
-  }
-
-  -- an answer to what was read is the answer to the whole input
-  answered_read : (result : Status) (input : List ℕ) → before.left ≡ Some input → reads_input command ≡ true → Answered command before after left result
-      → (history : List Entry) × IsDetermined command history input before after left result (Some (drop (most_input + 1) input))
-  answered_read result input known reads told =
-      let read : IsInput most_input (Some input) after.left told.input = rw (reads, known) at told.read in
-      let whole = read_whole command told.history input told.input after.left reads read in
-      (told.history, determined_by told.history told.history told.input input result (Some (drop (most_input + 1) input)) whole.same (determined_read result (Some (drop (most_input + 1) input)) told whole.rest))
-
-  -- what is not read stays, and has no part in the answer
-  answered_unread : (result : Status) (history : List Entry) (input : List ℕ) → reads_input command ≡ false → Answered command before after left result
-      → IsDetermined command history input before after left result before.left
-  answered_unread result history input none told =
-      determined_by told.history history told.input input result before.left (same_unread command told.history history told.input input none) (determined_read result before.left told (rw none at told.read))
-
-  -- at a status that is an answer the whole answer was given
-  answer_given : (result : Status) → is_answered result ≡ true → Outcome command before after left result → Answered command before after left result
-  answer_given Done answers told = told
-  answer_given Adverse answers told = told
-  answer_given Words answers told = told
-  answer_given TooLarge answers told = told
-  answer_given NotToml answers told = told
-  answer_given BadSet answers told = told
-  answer_given Wide answers told = told
-  answer_given Long answers told = told
-  answer_given ReadFault answers told = absurd (true≢false (sym answers))
-  answer_given WriteFault answers told = absurd (true≢false (sym answers))
-  answer_given NoMemory answers told = absurd (true≢false (sym answers))
-
-  -- a status is an answer where there was memory and no count rose
-  answered_without_faults : (result : Status) → Outcome command before after left result → result ≢ NoMemory → after.read_faults ≡ before.read_faults → after.write_faults ≡ before.write_faults
-      → is_answered result ≡ true
-  answered_without_faults Done told memory reads writes = refl
-  answered_without_faults Adverse told memory reads writes = refl
-  answered_without_faults Words told memory reads writes = refl
-  answered_without_faults TooLarge told memory reads writes = refl
-  answered_without_faults NotToml told memory reads writes = refl
-  answered_without_faults BadSet told memory reads writes = refl
-  answered_without_faults Wide told memory reads writes = refl
-  answered_without_faults Long told memory reads writes = refl
-  answered_without_faults ReadFault told memory reads writes = absurd (omega (arith, told.read_fault, reads))
-  answered_without_faults WriteFault told memory reads writes = absurd (omega (arith, told.write_fault, writes))
-  answered_without_faults NoMemory told memory reads writes = absurd (memory refl)
-
-  pub determined : (result : Status) → Outcome command before after left result → Determined command before after left result
-  determined result told input known reads answers =
-      some_or_each (uses_threads command) _ (answered_read result input known reads (answer_given result answers told))
-      (λ history other alone given. determined_by history other input input result (Some (drop (most_input + 1) input)) (same_without_threads command history other input alone) given)
-
-  pub unread : (result : Status) → Outcome command before after left result → Unread command before after left result
-  unread result told history input none answers = answered_unread result history input none (answer_given result answers told)
+use Rattle.rx_top.specs.Outcome.{Ends, Answer, answer, admit_answer, admit_status_by, draw_answer, edf_status, fixed_status, file_answer, lanes_answer, run_answer, most_input, Answered, Headline, Admission, Sharing, Drawing, AnswersServed, AnswersFits, MeansTest, SaysYes, Charges, ChargesRanks}
+use Rattle.rx_top.specs.declared.stops.Stop.{Stop}
+use Rattle.rx_top.specs.Stops.{is_answered}
+use Rattle.rx_top.proofs.Endings.{answered_ends, fits}
+use Rattle.rx_top.proofs.Determinations.{all_of, determined, some_of, unread}
 
 no_yes : (place : ℕ) → No place ≡ Yes → ⊥
 no_yes place e = cc
@@ -226,6 +79,10 @@ rm_not e = cc
 
 dm_not : Dm ≡ Edf → ⊥
 dm_not e = cc
+
+-- a status with which an answer was given is that of one
+answered : (command : Option Command) (before after : Ends) (left : Left) (result : Status) → Answered command before after left result → is_answered result ≡ true
+answered command before after left result told = ap (λ (r : Result Status Stop). is_ok r) (answered_ends command before after left result told)
 
 -- the laws that the clauses of a run rest on
 pub record Laws : Type 0 where
@@ -313,17 +170,17 @@ none_missed laws system n valid line kept = none_reported system n (never_missed
 done_without : (result : Status) (n : ℕ) → result ≡ (if n == 0 then Done else Adverse) → n ≡ 0 → result ≡ Done
 done_without result n is none = is ∙ ap (λ (k : ℕ). if k == 0 then Done else Adverse) none
 
-pub headline : Laws → (command : Option Command) (before after : Ends) (left : Left) (result : Status) → Outcome command before after left result → Headline command before after left result
-headline laws command before after left result told ticks input system asks known few set memory reads writes =
-    let reading : reads_input command ≡ true = ap reads_input asks in
-    let given = all_of (uses_threads command) _ (ap uses_threads asks) (determined command before after left result told input known reading (answered_without_faults command before after left result told memory reads writes)) [] in
+pub headline : Laws → (command : Option Command) (before after : Ends) (left : Left) (result : Status) → Answered command before after left result → Headline command before after left result
+headline laws command before after left result told ticks input system asks known few set memory kept =
+    let found = determined command before after left result told input known (ap reads_input asks) (answered command before after left result told) in
+    let given = all_of (uses_threads command) _ (ap uses_threads asks) found.1 [] in
     let same : answer command [] input ≡ run_answer ticks system =
     ap (λ c. answer c [] input) asks ∙ fits (run_answer ticks) input few ∙ ap (file_answer (run_answer ticks)) set in
     let valid : IsValid system = subst (λ about. IfSome about IsValid) (ap (λ (a : Answer). a.about) same) given.valid in
     let bank : Leaves (LeaveBank system ticks) left = subst (λ leaves. Leaves leaves left) (ap (λ (a : Answer). a.leaves) same) given.leaves in
     let status : result ≡ (if reported_misses system ticks == 0 then Done else Adverse) = given.status ∙ ap (λ (a : Answer). a.status) same in record {
-      read = given.unread ∙ ap (λ (r : List ℕ). Some r) (drop_of_length-le input {i = most_input + 1} (omega (arith, few)));
-      written = subst (Appends before.taken after.taken) (ap (λ (a : Answer). a.output) same) given.written;
+      read = found.0 ∙ ap (λ (r : List ℕ). Some r) (drop_of_length-le input {i = most_input + 1} (omega (arith, few)));
+      written = subst (Takes before.sink after.sink) (ap (λ (a : Answer). a.lines) same) given.written;
       test = means laws system valid;
       status = status;
       bank = bank;
@@ -398,16 +255,16 @@ answers_fits laws system result valid status = record {
   long = (λ long. edf_long (edf_verdict_of system) (sym status ∙ long), λ is. status ∙ ap edf_status is.1);
 }
 
-pub admission : Laws → (command : Option Command) (before after : Ends) (left : Left) (result : Status) → Outcome command before after left result → Admission command before after left result
-admission laws command before after left result told input system asks known few set memory reads writes =
-    let reading : reads_input command ≡ true = ap reads_input asks in
-    let given = all_of (uses_threads command) _ (ap uses_threads asks) (determined command before after left result told input known reading (answered_without_faults command before after left result told memory reads writes)) [] in
+pub admission : Laws → (command : Option Command) (before after : Ends) (left : Left) (result : Status) → Answered command before after left result → Admission command before after left result
+admission laws command before after left result told input system asks known few set memory kept =
+    let found = determined command before after left result told input known (ap reads_input asks) (answered command before after left result told) in
+    let given = all_of (uses_threads command) _ (ap uses_threads asks) found.1 [] in
     let same : answer command [] input ≡ admit_answer system =
     ap (λ c. answer c [] input) asks ∙ fits admit_answer input few ∙ ap (file_answer admit_answer) set in
     let valid : IsValid system = subst (λ about. IfSome about IsValid) (ap (λ (a : Answer). a.about) same) given.valid in
     let status : result ≡ admit_status_by system.policy system = given.status ∙ ap (λ (a : Answer). a.status) same in record {
-      read = given.unread ∙ ap (λ (r : List ℕ). Some r) (drop_of_length-le input {i = most_input + 1} (omega (arith, few)));
-      written = subst (Appends before.taken after.taken) (ap (λ (a : Answer). a.output) same) given.written;
+      read = found.0 ∙ ap (λ (r : List ℕ). Some r) (drop_of_length-le input {i = most_input + 1} (omega (arith, few)));
+      written = subst (Takes before.sink after.sink) (ap (λ (a : Answer). a.lines) same) given.written;
       status = status;
       served = λ fixed. answers_served laws system result (status ∙ fixed_status_is system.policy system fixed);
       fits = λ earliest. answers_fits laws system result valid (status ∙ ap (λ (p : Policy). admit_status_by p system) earliest);
@@ -415,15 +272,16 @@ admission laws command before after left result told input system asks known few
       nothing = subst (λ leaves. Leaves leaves left) (ap (λ (a : Answer). a.leaves) same) given.leaves;
     }
 
-pub drawing : Laws → (command : Option Command) (before after : Ends) (left : Left) (result : Status) → Outcome command before after left result → Drawing command before after left result
-drawing laws command before after left result told number asks memory reads writes =
+pub drawing : Laws → (command : Option Command) (before after : Ends) (left : Left) (result : Status) → Answered command before after left result → Drawing command before after left result
+drawing laws command before after left result told number asks memory kept =
     let none : reads_input command ≡ false = ap reads_input asks in
-    let given = unread command before after left result told [] [] none (answered_without_faults command before after left result told memory reads writes) in
+    let found = unread command before after left result told [] [] none (answered command before after left result told) in
+    let given = found.1 in
     let same : answer command [] [] ≡ draw_answer drawn_ticks number = ap (λ c. answer c [] []) asks in
     let bank : Leaves (LeaveBank (generated number) drawn_ticks) left = subst (λ leaves. Leaves leaves left) (ap (λ (a : Answer). a.leaves) same) given.leaves in
     let valid : IsValid (generated number) = subst (λ about. IfSome about IsValid) (ap (λ (a : Answer). a.about) same) given.valid in record {
-      unread = given.unread;
-      written = subst (Appends before.taken after.taken) (ap (λ (a : Answer). a.output) same) given.written;
+      unread = found.0;
+      written = subst (Takes before.sink after.sink) (ap (λ (a : Answer). a.lines) same) given.written;
       status = given.status ∙ ap (λ (a : Answer). a.status) same;
       test = means laws (generated number) valid;
       bank = bank;
@@ -447,10 +305,10 @@ tells_calls law system workers jobs history made task place entry known found =
     (ap (λ (k : ℕ). slice_get (script_of system jobs k) place) mine.0 ∙ ap (λ (asks : List Asked). slice_get asks place) (sym list.calls) ∙ slice_get-map asked_of (entries_by task history) place ∙ ap (λ (o : Option Entry). option_map asked_of o) found)
     mine.1
 
-pub sharing : CallsLaw → (command : Option Command) (before after : Ends) (left : Left) (result : Status) → Outcome command before after left result → Sharing command before after left result
-sharing law command before after left result told workers jobs input system asks known few set memory reads writes =
-    let reading : reads_input command ≡ true = ap reads_input asks in
-    let found = some_of (uses_threads command) _ (ap uses_threads asks) (determined command before after left result told input known reading (answered_without_faults command before after left result told memory reads writes)) in
+pub sharing : CallsLaw → (command : Option Command) (before after : Ends) (left : Left) (result : Status) → Answered command before after left result → Sharing command before after left result
+sharing law command before after left result told workers jobs input system asks known few set memory kept =
+    let known = determined command before after left result told input known (ap reads_input asks) (answered command before after left result told) in
+    let found = some_of (uses_threads command) _ (ap uses_threads asks) known.1 in
     let given = found.1 in
     let same : answer command found.0 input ≡ lanes_answer workers jobs found.0 system =
     ap (λ c. answer c found.0 input) asks ∙ fits (lanes_answer workers jobs found.0) input few ∙ ap (file_answer (lanes_answer workers jobs found.0)) set in
@@ -458,8 +316,8 @@ sharing law command before after left result told workers jobs input system asks
       history = found.0;
       made = made;
       calls = tells_calls law system workers jobs found.0 made;
-      read = given.unread ∙ ap (λ (r : List ℕ). Some r) (drop_of_length-le input {i = most_input + 1} (omega (arith, few)));
-      written = subst (Appends before.taken after.taken) (ap (λ (a : Answer). a.output) same) given.written;
+      read = known.0 ∙ ap (λ (r : List ℕ). Some r) (drop_of_length-le input {i = most_input + 1} (omega (arith, few)));
+      written = subst (Takes before.sink after.sink) (ap (λ (a : Answer). a.lines) same) given.written;
       status = given.status ∙ ap (λ (a : Answer). a.status) same;
       table = subst (λ leaves. Leaves leaves left) (ap (λ (a : Answer). a.leaves) same) given.leaves;
       valid = subst (λ about. IfSome about IsValid) (ap (λ (a : Answer). a.about) same) given.valid;

@@ -1,6 +1,5 @@
 -- What lanes made, and how it is told.
-use Rattle.std.proofs.Common.{ℕ, ◌≡◌, ◌+◌, List, [], ◌∷◌, ◌++◌, length, reverse, ◌==◌, refl, sym, ap, ap₂, ◌∙◌, subst, inl, inr, arith}
-use Rattle.std.specs.List.{flat_map}
+use Rattle.std.proofs.Common.{ℕ, ◌≡◌, ◌+◌, List, [], ◌∷◌, ◌++◌, map, length, reverse, ◌==◌, refl, sym, ap, ap₂, ◌∙◌, subst, inl, inr, arith}
 use Rattle.std.proofs.lemmas.Bool.{cases_Bool}
 use Rattle.std.proofs.lemmas.List.{length-reverse, reverse-reverse}
 use Rattle.rx_seq.specs.declared.kinds.Part.{Part}
@@ -15,8 +14,7 @@ use Rattle.rx_lanes.proofs.Plain.{tag_plain, replay_plain}
 use Rattle.rx_table.specs.Closings.{Ending, HasEnded}
 use Rattle.rx_report.specs.Lines.{object_line}
 use Rattle.rx_report.specs.LaneLines.{calls_line, entry_line}
-use Rattle.rx_top.specs.Report.{object_line_after}
-use Rattle.rx_top.specs.Runs.{first_objects}
+use Rattle.rx_top.specs.Report.{first_objects, object_line_after}
 use Rattle.rx_top.specs.LaneReport.{IsTableLeft, history_lines}
 
 -- the tag and the state of an object are those after its own entries, whoever made them
@@ -46,18 +44,18 @@ module _ (system : System) (history other : List Entry) (same : HaveSameObjects 
       sym (replay_on (parts_of system) object history) ∙ sym (replay_plain (parts_of system) object (entries_on object history)) ∙ ap (replay (parts_of system) object) (same object)
       ∙ replay_plain (parts_of system) object (entries_on object other) ∙ replay_on (parts_of system) object other
 
-  same_lines : (objects : List ℕ) → flat_map (object_line_after system history) objects ≡ flat_map (object_line_after system other) objects
+  same_lines : (objects : List ℕ) → map (object_line_after system history) objects ≡ map (object_line_after system other) objects
   same_lines [] = refl
   same_lines (object ∷ objects) =
-      ap₂ (λ (a b : List ℕ). a ++ b) (ap₂ (λ (tag : ℕ) (state : List ℕ). object_line system object tag state) (same_tag object) (same_state object)) (same_lines objects)
+      ap₂ (λ (line : List ℕ) (lines : List (List ℕ)). line ∷ lines) (ap₂ (λ (tag : ℕ) (state : List ℕ). object_line system object tag state) (same_tag object) (same_state object)) (same_lines objects)
 
 -- the lines of a history, with those of the objects of another one that has the same entries on each
 pub history_parts : (system : System) (entries other : List Entry) → HaveSameObjects (reverse entries) other
-    → history_lines system (reverse entries) ≡ flat_map (entry_line system) entries ++ (first_objects system other (length system.objects) ++ calls_line (length entries))
+    → history_lines system (reverse entries) ≡ map (entry_line system) entries ++ (first_objects system other (length system.objects) ++ calls_line (length entries) ∷ [])
 history_parts system entries other same =
-    ap (λ (es : List Entry). flat_map (entry_line system) es ++ (first_objects system (reverse entries) (length system.objects) ++ calls_line (length (reverse entries)))) (reverse-reverse entries)
-    ∙ ap (λ (text : List ℕ). flat_map (entry_line system) entries ++ (text ++ calls_line (length (reverse entries)))) (same_lines system (reverse entries) other same (numbers (length system.objects)))
-    ∙ ap (λ (n : ℕ). flat_map (entry_line system) entries ++ (first_objects system other (length system.objects) ++ calls_line n)) (length-reverse entries)
+    ap (λ (es : List Entry). map (entry_line system) es ++ (first_objects system (reverse entries) (length system.objects) ++ calls_line (length (reverse entries)) ∷ [])) (reverse-reverse entries)
+    ∙ ap (λ (lines : List (List ℕ)). map (entry_line system) entries ++ (lines ++ calls_line (length (reverse entries)) ∷ [])) (same_lines system (reverse entries) other same (numbers (length system.objects)))
+    ∙ ap (λ (n : ℕ). map (entry_line system) entries ++ (first_objects system other (length system.objects) ++ calls_line n ∷ [])) (length-reverse entries)
 
 -- the closed table of lanes
 pub table_is : (system : System) (workers : ℕ) (lists : List (List Entry)) (order : List Entry) (table : Ending) → lists_in system (reverse order) ≡ lists → table.layout ≡ table_of system workers → HasEnded table

@@ -1,6 +1,5 @@
 -- The report of a drawn set: what is told of the intervals of its schedule.
-use Rattle.std.specs.Prelude.{ℕ, ◌+◌, ◌*◌, List, ◌++◌}
-use Rattle.std.specs.List.{flat_map}
+use Rattle.std.specs.Prelude.{ℕ, ◌+◌, ◌*◌, List, [], ◌∷◌, ◌++◌, map}
 use Rattle.rx_set.specs.System.{System, numbers}
 use Rattle.rx_ledger.specs.declared.events.Event.{Event}
 use Rattle.rx_ledger.specs.Intervals.{any_job, retries, preemptions}
@@ -24,13 +23,13 @@ window_line_after told place =
     window_line a b (retries any_job a b told) (preemptions any_job a b told)
 
 -- the lines of the first intervals
-abbrev pub first_windows : List Event → ℕ → List ℕ
-first_windows told count = flat_map (window_line_after told) (numbers count)
+abbrev pub first_windows : List Event → ℕ → List (List ℕ)
+first_windows told count = map (window_line_after told) (numbers count)
 
--- what is written of a run after its test: the intervals, the objects and the totals
-abbrev pub window_report : System → ℕ → List ℕ
-window_report system ticks = first_windows (reported_events system ticks) 10 ++ (object_lines system ticks ++ total_line (run_totals system ticks))
+-- the lines that are written of a run after its test: the intervals, the objects and the totals
+abbrev pub window_report : System → ℕ → List (List ℕ)
+window_report system ticks = first_windows (reported_events system ticks) 10 ++ (object_lines system ticks ++ total_line (run_totals system ticks) ∷ [])
 
--- all that is written of a drawn set: the line of its test, and that
-abbrev pub drawn_report : System → ℕ → List ℕ
-drawn_report system ticks = test_line system ++ window_report system ticks
+-- the lines that are written of a drawn set: that of its test, and those
+abbrev pub drawn_report : System → ℕ → List (List ℕ)
+drawn_report system ticks = test_line system ∷ window_report system ticks

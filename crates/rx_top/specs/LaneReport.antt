@@ -1,6 +1,5 @@
 -- The report of what lanes made of the operations of all tasks, which is told of one history of them.
-use Rattle.std.specs.Prelude.{ℕ, ◌≡◌, ◌<◌, List, ◌++◌, length, reverse, slice_get, Some}
-use Rattle.std.specs.List.{flat_map}
+use Rattle.std.specs.Prelude.{ℕ, ◌≡◌, ◌<◌, List, [], ◌∷◌, ◌++◌, map, length, reverse, slice_get, Some}
 use Rattle.rx_seq.specs.declared.entries.Entry.{Entry}
 use Rattle.rx_set.specs.declared.items.Item.TheVariants.{Op}
 use Rattle.rx_set.specs.System.{System}
@@ -9,16 +8,16 @@ use Rattle.rx_lanes.specs.Runs.{AreShared, entries_by, lists_in, table_of}
 use Rattle.rx_table.specs.Closings.{Ending, HasEnded}
 use Rattle.rx_report.specs.Lines.{item_of}
 use Rattle.rx_report.specs.LaneLines.{calls_line, entry_item, entry_job, entry_line, lanes_line}
-use Rattle.rx_top.specs.Runs.{first_objects}
+use Rattle.rx_top.specs.Report.{first_objects}
 
 -- the lines of a history: its entries from the oldest on, the objects after them, and how many there are
-abbrev pub history_lines : System → List Entry → List ℕ
+abbrev pub history_lines : System → List Entry → List (List ℕ)
 history_lines system history =
-    flat_map (entry_line system) (reverse history) ++ (first_objects system history (length system.objects) ++ calls_line (length history))
+    map (entry_line system) (reverse history) ++ (first_objects system history (length system.objects) ++ calls_line (length history) ∷ [])
 
--- all that so many lanes write: how many they were and how many jobs of each task they made, and the lines of the history
-abbrev pub lanes_report : System → ℕ → ℕ → List Entry → List ℕ
-lanes_report system workers jobs history = lanes_line workers jobs ++ history_lines system history
+-- the lines that so many lanes write: how many they were and how many jobs of each task they made, and those of the history
+abbrev pub lanes_report : System → ℕ → ℕ → List Entry → List (List ℕ)
+lanes_report system workers jobs history = lanes_line workers jobs ∷ history_lines system history
 
 -- the line of an entry of any task names the item that asked for the entry's own call
 abbrev pub TellsCalls : System → List Entry → Type 0

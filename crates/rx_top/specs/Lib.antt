@@ -1,4 +1,5 @@
 pub mod Words
+pub mod Stops
 pub mod Tests
 pub mod Report
 pub mod Drawn

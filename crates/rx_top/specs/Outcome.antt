@@ -1,7 +1,9 @@
 -- What the top call answers, writes and leaves.
-use Rattle.std.specs.Prelude.{ℕ, ◌≡◌, ◌≢◌, ◌<◌, ◌≤◌, ◌==◌, ◌↔◌, nat_le, Bool, true, false, if◌then◌else◌, List, [], length, codes, Option, Some, None, IsSome, IfSome, Result, Ok, Err}
-use Rattle.std.specs.Io.KnownBytes.{Appends, Keeps}
-use Rattle.rx_io.specs.Causes.{Began, IsInput}
+use Rattle.std.specs.Prelude.{ℕ, ◌≡◌, ◌≢◌, ◌<◌, ◌≤◌, ◌+◌, ◌==◌, ◌↔◌, nat_le, Bool, true, false, if◌then◌else◌, List, [], ◌∷◌, length, codes, Option, Some, None, IsSome, IfSome, Result, Ok, Err}
+use Rattle.rx_io.specs.declared.status.Status.{Status}
+use Rattle.rx_io.specs.declared.status.Status.TheVariants.{Done, Adverse, Words, ReadFault, TooLarge, NotToml, BadSet, WriteFault, NoMemory, Wide, Long}
+use Rattle.rx_io.specs.Ends.{SourceState, SinkState, AreCalled}
+use Rattle.rx_io.specs.Causes.{AreSteps, HasFailed, IsInput, Takes, TakesFront, TakesNothing, read_step}
 use Rattle.rx_set.specs.declared.policies.Policy.{Policy}
 use Rattle.rx_set.specs.declared.policies.Policy.TheVariants.{Rm, Dm, Edf}
 use Rattle.rx_set.specs.System.{System, parts_of}
@@ -20,13 +22,14 @@ use Rattle.rx_file.specs.SetOf.{set_of}
 use Rattle.rx_report.specs.Lines.{fault_line}
 use Rattle.rx_top.specs.declared.left.Left.{Left}
 use Rattle.rx_top.specs.declared.left.Left.TheVariants.{Nothing}
-use Rattle.rx_top.specs.declared.status.Status.{Status}
-use Rattle.rx_top.specs.declared.status.Status.TheVariants.{Done, Adverse, Words, ReadFault, TooLarge, NotToml, BadSet, WriteFault, NoMemory, Wide, Long}
+use Rattle.rx_top.specs.declared.stops.Stop.{Stop}
+use Rattle.rx_top.specs.declared.stops.Stop.TheVariants.{Read, Write, Memory}
 use Rattle.rx_top.specs.declared.words.Command.{Command}
 use Rattle.rx_top.specs.declared.words.Command.TheVariants.{Ask, Draw}
 use Rattle.rx_top.specs.declared.words.Query.{Query}
 use Rattle.rx_top.specs.declared.words.Query.TheVariants.{Run, Admit, Lanes}
 use Rattle.rx_top.specs.Words.{reads_input}
+use Rattle.rx_top.specs.Stops.{ending_of}
 use Rattle.rx_ledger.specs.Intervals.{any_job, retries, preemptions, releases}
 use Rattle.rx_seq.specs.declared.entries.Entry.{Entry}
 use Rattle.rx_seq.specs.Legal.{IsLegal}
@@ -40,41 +43,25 @@ use Rattle.rx_lanes.specs.Histories.{IsMade, Made, made_of}
 use Rattle.rx_top.specs.LaneReport.{TellsCalls, lanes_report}
 use Rattle.rx_top.specs.Leaves.{ToLeave, LeaveNothing, LeaveBank, LeaveTable, Leaves}
 
--- the exit code of a status
-abbrev pub code_of : Status → ℕ
-code_of Done = 0
-code_of Adverse = 1
-code_of Words = 2
-code_of ReadFault = 3
-code_of TooLarge = 4
-code_of NotToml = 5
-code_of BadSet = 6
-code_of WriteFault = 7
-code_of NoMemory = 8
-code_of Wide = 9
-code_of Long = 10
+-- what a source and a sink tell at one moment
+pub record Ends : Type 1 where
+  pub source : SourceState
+  pub sink : SinkState
 
--- what a source and a sink tell at a moment: the bytes left and the bytes taken, and how many calls have failed
-pub record Ends : Type 0 where
-  pub left : Option (List ℕ)
-  pub read_faults : ℕ
-  pub taken : Option (List ℕ)
-  pub write_faults : ℕ
+abbrev pub ends : SourceState → SinkState → Ends
+ends source sink = record { source = source; sink = sink }
 
-abbrev pub ends : Option (List ℕ) → ℕ → Option (List ℕ) → ℕ → Ends
-ends left read_faults taken write_faults = record { left = left; read_faults = read_faults; taken = taken; write_faults = write_faults }
-
--- a status, all that is written with it, the set that it is about, what lanes made of it, and what is left
+-- a status, the lines that are written with it, the set that it is about, what lanes made of it, and what is left
 pub record Answer : Type 0 where
   pub status : Status
-  pub output : List ℕ
+  pub lines : List (List ℕ)
   pub about : Option System
   pub made : Option Made
   pub leaves : ToLeave
 
--- an answer that says no more than its status and its output
+-- an answer that says no more than its status and one line
 abbrev pub plain_answer : Status → List ℕ → Answer
-plain_answer status output = record { status = status; output = output; about = None; made = None; leaves = LeaveNothing }
+plain_answer status line = record { status = status; lines = line ∷ []; about = None; made = None; leaves = LeaveNothing }
 
 -- the answer to words of no shape
 abbrev pub words_answer : Answer
@@ -95,7 +82,7 @@ fault_answer first = plain_answer (fault_status first) (fault_line first)
 
 -- the answer of a run of so many slots: its report, `Adverse` where it tells a miss and else `Done`, and its bank
 abbrev pub run_answer : ℕ → System → Answer
-run_answer ticks system = record { status = if reported_misses system ticks == 0 then Done else Adverse; output = report system ticks; about = Some system; made = None; leaves = LeaveBank system ticks }
+run_answer ticks system = record { status = if reported_misses system ticks == 0 then Done else Adverse; lines = report system ticks; about = Some system; made = None; leaves = LeaveBank system ticks }
 
 -- the status of the verdict of each test
 abbrev pub fixed_status : Verdict → Status
@@ -115,11 +102,11 @@ admit_status_by Edf system = edf_status (edf_verdict_of system)
 
 -- the answer to an admission: the report of the test of the set's policy, whose verdict is the status
 abbrev pub admit_answer : System → Answer
-admit_answer system = record { status = admit_status_by system.policy system; output = admit_report system; about = Some system; made = None; leaves = LeaveNothing }
+admit_answer system = record { status = admit_status_by system.policy system; lines = admit_report system; about = Some system; made = None; leaves = LeaveNothing }
 
 -- the answer of so many lanes that made this history: its report, `Done`, and their table
 abbrev pub lanes_answer : ℕ → ℕ → List Entry → System → Answer
-lanes_answer workers jobs history system = record { status = Done; output = lanes_report system workers jobs history; about = Some system; made = Some (made_of system workers jobs history); leaves = LeaveTable system workers history }
+lanes_answer workers jobs history system = record { status = Done; lines = lanes_report system workers jobs history; about = Some system; made = Some (made_of system workers jobs history); leaves = LeaveTable system workers history }
 
 -- The answer of a query to a set. Only that of lanes looks at the history, which is up to the threads
 abbrev pub set_answer : Query → List Entry → System → Answer
@@ -129,7 +116,7 @@ set_answer (Lanes workers jobs) history system = lanes_answer workers jobs histo
 
 -- the answer to the number of a drawn set that is run for so many slots: its report, `Done`, and its bank
 abbrev pub draw_answer : ℕ → ℕ → Answer
-draw_answer ticks number = record { status = Done; output = drawn_report (generated number) ticks; about = Some (generated number); made = None; leaves = LeaveBank (generated number) ticks }
+draw_answer ticks number = record { status = Done; lines = drawn_report (generated number) ticks; about = Some (generated number); made = None; leaves = LeaveBank (generated number) ticks }
 
 -- the answer to what a task file gives, from the answer to its set
 abbrev pub file_answer : (System → Answer) → Result System FileFault → Answer
@@ -150,114 +137,104 @@ answer None history input = words_answer
 answer (Some (Ask query)) history input = input_answer (set_answer query history) input
 answer (Some (Draw number)) history input = draw_answer drawn_ticks number
 
--- The status and the output are an answer to the command and the input. Of lanes there is one for each history that they can make, and of any other command exactly one.
-pub record IsAnswer (command : Option Command) (history : List Entry) (input : List ℕ) (result : Status) (output : List ℕ) : Type 0 where
-  pub status : result ≡ (answer command history input).status
-  pub bytes : output ≡ (answer command history input).output
-  pub made : IfSome (answer command history input).made IsMade
-
--- What was read: all to the end, or one byte more than an input may have. A command that reads nothing leaves the source as it was
-abbrev pub Reads : Bool → Ends → Ends → List ℕ → Type 0
-Reads true before after input = IsInput most_input before.left after.left input
-Reads false before after input = after.left ≡ before.left
-
--- Neither count rose, the input was read, an answer to it was written, all of it and nothing else, the set that it is about is valid, and its bank or its table is left.
-pub record Answered (command : Option Command) (before after : Ends) (left : Left) (result : Status) : Type 0 where
-  pub input : List ℕ
-  pub history : List Entry
-  pub output : List ℕ
-  pub read : Reads (reads_input command) before after input
-  pub valid : IfSome (answer command history input).about IsValid
-  pub leaves : Leaves (answer command history input).leaves left
-  pub answer : IsAnswer command history input result output
-  pub written : Appends before.taken after.taken output
-  pub no_read_fault : after.read_faults ≡ before.read_faults
-  pub no_write_fault : after.write_faults ≡ before.write_faults
-
--- The source failed. The command reads its input, and nothing was written or is left.
-pub record ReadFailed (command : Option Command) (before after : Ends) (left : Left) : Type 0 where
-  pub reads : reads_input command ≡ true
-  pub read_fault : before.read_faults < after.read_faults
-  pub written : Keeps before.taken after.taken
-  pub no_write_fault : after.write_faults ≡ before.write_faults
-  pub nothing : left ≡ Nothing
-
--- The sink failed. The input was read, a front of an answer to it was written, and nothing is left.
-pub record WriteFailed (command : Option Command) (before after : Ends) (left : Left) : Type 0 where
-  pub input : List ℕ
-  pub history : List Entry
-  pub status : Status
-  pub output : List ℕ
-  pub read : Reads (reads_input command) before after input
-  pub answer : IsAnswer command history input status output
-  pub written : Began before.taken after.taken output
-  pub no_read_fault : after.read_faults ≡ before.read_faults
-  pub write_fault : before.write_faults < after.write_faults
-  pub nothing : left ≡ Nothing
-
--- There was no memory. The words have a shape, a command that reads nothing left the source as it was, and nothing was written or is left.
-pub record LacksMemory (command : Option Command) (before after : Ends) (left : Left) : Type 0 where
-  pub shape : IsSome command
-  pub unread : reads_input command ≡ false → after.left ≡ before.left
-  pub written : Keeps before.taken after.taken
-  pub no_read_fault : after.read_faults ≡ before.read_faults
-  pub no_write_fault : after.write_faults ≡ before.write_faults
-  pub nothing : left ≡ Nothing
-
--- What holds at each status.
-abbrev pub Outcome : Option Command → Ends → Ends → Left → Status → Type 0
-Outcome command before after left ReadFault = ReadFailed command before after left
-Outcome command before after left WriteFault = WriteFailed command before after left
-Outcome command before after left NoMemory = LacksMemory command before after left
-Outcome command before after left Done = Answered command before after left Done
-Outcome command before after left Adverse = Answered command before after left Adverse
-Outcome command before after left Words = Answered command before after left Words
-Outcome command before after left TooLarge = Answered command before after left TooLarge
-Outcome command before after left NotToml = Answered command before after left NotToml
-Outcome command before after left BadSet = Answered command before after left BadSet
-Outcome command before after left Wide = Answered command before after left Wide
-Outcome command before after left Long = Answered command before after left Long
-
--- what a command does to the sink alone once its input is read, and what it leaves: it writes its answer, and leaves
--- its bank or its table
-pub record WritesAll (answer : Answer) (old new : Option (List ℕ)) (before after : ℕ) (left : Left) (result : Status) : Type 0 where
+-- An answer is given: its status, all of its lines and nothing else, about a valid set, of a history that lanes can make if it is theirs, and its bank or its table is left.
+pub record WritesAll (answer : Answer) (old new : SinkState) (left : Left) (result : Status) : Type 0 where
   pub status : result ≡ answer.status
+  pub written : Takes old new answer.lines
   pub valid : IfSome answer.about IsValid
   pub made : IfSome answer.made IsMade
   pub leaves : Leaves answer.leaves left
-  pub written : Appends old new answer.output
-  pub no_fault : after ≡ before
 
--- it writes a front of its answer, since the sink failed, and leaves nothing
-pub record WritesFront (answer : Answer) (old new : Option (List ℕ)) (before after : ℕ) (left : Left) : Type 0 where
+-- A front of its lines is written, since the sink failed, and nothing is left.
+pub record WritesFront (answer : Answer) (old new : SinkState) (left : Left) : Type 0 where
+  pub written : TakesFront old new answer.lines
   pub made : IfSome answer.made IsMade
-  pub written : Began old new answer.output
-  pub fault : before < after
   pub nothing : left ≡ Nothing
 
--- it writes nothing, since there was no memory, and leaves nothing
-pub record WritesNothing (old new : Option (List ℕ)) (before after : ℕ) (left : Left) : Type 0 where
-  pub written : Keeps old new
-  pub no_fault : after ≡ before
+-- Nothing is written, and nothing is left.
+pub record WritesNothing (old new : SinkState) (left : Left) : Type 0 where
+  pub written : TakesNothing old new
   pub nothing : left ≡ Nothing
 
--- one of these three, by the status
-abbrev pub WritesAnswer : Answer → Option (List ℕ) → Option (List ℕ) → ℕ → ℕ → Left → Status → Type 0
-WritesAnswer answer old new before after left ReadFault = ⊥
-WritesAnswer answer old new before after left WriteFault = WritesFront answer old new before after left
-WritesAnswer answer old new before after left NoMemory = WritesNothing old new before after left
-WritesAnswer answer old new before after left Done = WritesAll answer old new before after left Done
-WritesAnswer answer old new before after left Adverse = WritesAll answer old new before after left Adverse
-WritesAnswer answer old new before after left Words = WritesAll answer old new before after left Words
-WritesAnswer answer old new before after left TooLarge = WritesAll answer old new before after left TooLarge
-WritesAnswer answer old new before after left NotToml = WritesAll answer old new before after left NotToml
-WritesAnswer answer old new before after left BadSet = WritesAll answer old new before after left BadSet
-WritesAnswer answer old new before after left Wide = WritesAll answer old new before after left Wide
-WritesAnswer answer old new before after left Long = WritesAll answer old new before after left Long
+-- what a command does to the sink once its input is read, by how it ends
+abbrev pub WritesAnswer : Answer → SinkState → SinkState → Left → Result Status Stop → Type 0
+WritesAnswer answer old new left (Ok status) = WritesAll answer old new left status
+WritesAnswer answer old new left (Err Read) = ⊥
+WritesAnswer answer old new left (Err Write) = WritesFront answer old new left
+WritesAnswer answer old new left (Err Memory) = WritesNothing old new left
 
 -- the same of the answer to some history
-abbrev pub WritesOneAnswer : (List Entry → Answer) → Option (List ℕ) → Option (List ℕ) → ℕ → ℕ → Left → Status → Type 0
-WritesOneAnswer answers old new before after left result = (history : List Entry) × WritesAnswer (answers history) old new before after left result
+abbrev pub WritesOneAnswer : (List Entry → Answer) → SinkState → SinkState → Left → Result Status Stop → Type 0
+WritesOneAnswer answers old new left result = (history : List Entry) × WritesAnswer (answers history) old new left result
+
+-- The source is as it was, and was not called.
+pub record IsUnread (before after : SourceState) : Type 0 where
+  pub left : after.left ≡ before.left
+  pub calls : AreCalled before.calls after.calls (λ calls. calls ≡ [])
+  pub kept : after.failures ≡ before.failures
+
+-- The source was read by steps up to the limit of an input, and none of the calls failed.
+pub record IsRead (before after : SourceState) : Type 0 where
+  pub calls : AreCalled before.calls after.calls (AreSteps read_step (most_input + 1))
+  pub kept : after.failures ≡ before.failures
+
+-- What was read: all to the end, or one byte more than an input may have. A command that reads nothing does not call the source.
+abbrev pub Reads : Bool → SourceState → SourceState → List ℕ → Type 0
+Reads true before after input = IsInput most_input before after input
+Reads false before after input = IsUnread before after
+
+-- whatever was read of an input
+abbrev pub ReadsSome : Bool → SourceState → SourceState → Type 0
+ReadsSome true before after = IsRead before after
+ReadsSome false before after = IsUnread before after
+
+-- The input was read, and the answer to it was given.
+pub record Answered (command : Option Command) (before after : Ends) (left : Left) (result : Status) : Type 0 where
+  pub input : List ℕ
+  pub history : List Entry
+  pub read : Reads (reads_input command) before.source after.source input
+  pub gives : WritesAll (answer command history input) before.sink after.sink left result
+
+-- The source failed. The command reads its input, by steps up to the call that failed, and nothing was written or is left.
+pub record ReadFailed (command : Option Command) (before after : Ends) (left : Left) : Type 0 where
+  pub reads : reads_input command ≡ true
+  pub calls : AreCalled before.source.calls after.source.calls (AreSteps read_step (most_input + 1))
+  pub failed : HasFailed before.source.failures after.source.failures
+  pub gives : WritesNothing before.sink after.sink left
+
+-- The sink failed. The input was read, a front of the answer to it was written, and nothing is left.
+pub record WriteFailed (command : Option Command) (before after : Ends) (left : Left) : Type 0 where
+  pub input : List ℕ
+  pub history : List Entry
+  pub read : Reads (reads_input command) before.source after.source input
+  pub gives : WritesFront (answer command history input) before.sink after.sink left
+
+-- There was no memory. The words have a shape, no call failed, and nothing was written or is left.
+pub record LacksMemory (command : Option Command) (before after : Ends) (left : Left) : Type 0 where
+  pub shape : IsSome command
+  pub read : ReadsSome (reads_input command) before.source after.source
+  pub gives : WritesNothing before.sink after.sink left
+
+-- what holds where a call ends with a status, or was stopped
+abbrev pub Ending : Option Command → Ends → Ends → Left → Result Status Stop → Type 0
+Ending command before after left (Ok status) = Answered command before after left status
+Ending command before after left (Err Read) = ReadFailed command before after left
+Ending command before after left (Err Write) = WriteFailed command before after left
+Ending command before after left (Err Memory) = LacksMemory command before after left
+
+-- What holds at each status.
+abbrev pub Outcome : Option Command → Ends → Ends → Left → Status → Type 0
+Outcome command before after left result = Ending command before after left (ending_of result)
+
+-- The latest call of the source failed exactly at `ReadFault`, and that of the sink exactly at `WriteFault`.
+pub record IsLast (after : Ends) (result : Status) : Type 0 where
+  pub source : (after.source.failures.down ≡ true) ↔ (result ≡ ReadFault)
+  pub sink : (after.sink.failures.down ≡ true) ↔ (result ≡ WriteFault)
+
+-- no call of the source and none of the sink failed
+pub record NoneFailed (before after : Ends) : Type 0 where
+  pub reads : after.source.failures.count ≡ before.source.failures.count
+  pub writes : after.sink.failures.count ≡ before.sink.failures.count
 
 -- the first line is `test yes`
 abbrev pub SaysYes : System → Type 0
@@ -284,10 +261,10 @@ MakesBodies system ticks = (task : ℕ) → task < length system.tasks → Follo
 abbrev pub IsOnTime : System → ℕ → Status → Type 0
 IsOnTime system ticks result = SaysYes system → KeepsCosts system → (reported_misses system ticks ≡ 0) × (result ≡ Done)
 
--- All of the input was read, the bytes taken are those of the report and no others, its first line tells the test, the status says whether there is a miss, the bank is that of the run, and its history is one of the objects used one operation at a time.
+-- All of the input was read, the lines of the report and no others were taken, its first line tells the test, the status says whether there is a miss, the bank is that of the run, and its history is one of the objects used one operation at a time.
 pub record Reported (system : System) (ticks : ℕ) (before after : Ends) (left : Left) (result : Status) : Type 0 where
-  pub read : after.left ≡ Some []
-  pub written : Appends before.taken after.taken (report system ticks)
+  pub read : after.source.left ≡ Some []
+  pub written : Takes before.sink after.sink (report system ticks)
   pub test : MeansTest system
   pub status : result ≡ (if reported_misses system ticks == 0 then Done else Adverse)
   pub bank : Leaves (LeaveBank system ticks) left
@@ -302,8 +279,8 @@ pub record Reported (system : System) (ticks : ℕ) (before after : Ends) (left 
 abbrev pub Headline : Option Command → Ends → Ends → Left → Status → Type 0
 Headline command before after left result =
     (ticks : ℕ) (input : List ℕ) (system : System)
-    → command ≡ Some (Ask (Run ticks)) → before.left ≡ Some input → length input ≤ most_input → set_of input ≡ Ok system
-    → result ≢ NoMemory → after.read_faults ≡ before.read_faults → after.write_faults ≡ before.write_faults
+    → command ≡ Some (Ask (Run ticks)) → before.source.left ≡ Some input → length input ≤ most_input → set_of input ≡ Ok system
+    → result ≢ NoMemory → NoneFailed before after
     → Reported system ticks before after left result
 
 -- under fixed priorities the status is `Done` exactly where each task is served, and else `Adverse`
@@ -318,10 +295,10 @@ pub record AnswersFits (system : System) (result : Status) : Type 0 where
   pub wide : (result ≡ Wide) ↔ (edf_verdict_of system ≡ edf.Wide)
   pub long : (result ≡ Long) ↔ ((points : ℕ) × (edf_verdict_of system ≡ edf.Long points))
 
--- All of the input was read, the bytes taken are those of the test and no others, and the status is its verdict. Nothing is left.
+-- All of the input was read, the lines of the test and no others were taken, and the status is its verdict. Nothing is left.
 pub record Admitted (system : System) (before after : Ends) (left : Left) (result : Status) : Type 0 where
-  pub read : after.left ≡ Some []
-  pub written : Appends before.taken after.taken (admit_report system)
+  pub read : after.source.left ≡ Some []
+  pub written : Takes before.sink after.sink (admit_report system)
   pub status : result ≡ admit_status_by system.policy system
   pub served : system.policy ≢ Edf → AnswersServed system result
   pub fits : system.policy ≡ Edf → AnswersFits system result
@@ -332,14 +309,14 @@ pub record Admitted (system : System) (before after : Ends) (left : Left) (resul
 abbrev pub Admission : Option Command → Ends → Ends → Left → Status → Type 0
 Admission command before after left result =
     (input : List ℕ) (system : System)
-    → command ≡ Some (Ask Admit) → before.left ≡ Some input → length input ≤ most_input → set_of input ≡ Ok system
-    → result ≢ NoMemory → after.read_faults ≡ before.read_faults → after.write_faults ≡ before.write_faults
+    → command ≡ Some (Ask Admit) → before.source.left ≡ Some input → length input ≤ most_input → set_of input ≡ Ok system
+    → result ≢ NoMemory → NoneFailed before after
     → Admitted system before after left result
 
--- The input is as it was, the bytes taken are the report of the drawn set and no others, and the bank is that of its run. Where the first line says yes, no miss is among the totals.
+-- The input is as it was, the lines of the report of the drawn set and no others were taken, and the bank is that of its run. Where the first line says yes, no miss is among the totals.
 pub record DrawnReported (number : ℕ) (before after : Ends) (left : Left) (result : Status) : Type 0 where
-  pub unread : after.left ≡ before.left
-  pub written : Appends before.taken after.taken (drawn_report (generated number) drawn_ticks)
+  pub unread : IsUnread before.source after.source
+  pub written : Takes before.sink after.sink (drawn_report (generated number) drawn_ticks)
   pub status : result ≡ Done
   pub test : MeansTest (generated number)
   pub bank : Leaves (LeaveBank (generated number) drawn_ticks) left
@@ -353,16 +330,16 @@ pub record DrawnReported (number : ℕ) (before after : Ends) (left : Left) (res
 abbrev pub Drawing : Option Command → Ends → Ends → Left → Status → Type 0
 Drawing command before after left result =
     (number : ℕ) → command ≡ Some (Draw number)
-    → result ≢ NoMemory → after.read_faults ≡ before.read_faults → after.write_faults ≡ before.write_faults
+    → result ≢ NoMemory → NoneFailed before after
     → DrawnReported number before after left result
 
--- All of the input was read. The bytes taken are the report of this history and no others, which so many lanes can make of the operations of the set for so many jobs of each task; each line tells its entry's own call. In the table that is left each lane's seat has the entries of its tasks.
+-- All of the input was read. The lines of the report of this history and no others were taken, which so many lanes can make of the operations of the set for so many jobs of each task; each line tells its entry's own call. In the table that is left each lane's seat has the entries of its tasks.
 pub record LanesReported (system : System) (workers jobs : ℕ) (before after : Ends) (left : Left) (result : Status) : Type 0 where
   pub history : List Entry
   pub made : IsMade (made_of system workers jobs history)
   pub calls : TellsCalls system history
-  pub read : after.left ≡ Some []
-  pub written : Appends before.taken after.taken (lanes_report system workers jobs history)
+  pub read : after.source.left ≡ Some []
+  pub written : Takes before.sink after.sink (lanes_report system workers jobs history)
   pub status : result ≡ Done
   pub table : Leaves (LeaveTable system workers history) left
   pub valid : IsValid system
@@ -371,6 +348,6 @@ pub record LanesReported (system : System) (workers jobs : ℕ) (before after : 
 abbrev pub Sharing : Option Command → Ends → Ends → Left → Status → Type 0
 Sharing command before after left result =
     (workers jobs : ℕ) (input : List ℕ) (system : System)
-    → command ≡ Some (Ask (Lanes workers jobs)) → before.left ≡ Some input → length input ≤ most_input → set_of input ≡ Ok system
-    → result ≢ NoMemory → after.read_faults ≡ before.read_faults → after.write_faults ≡ before.write_faults
+    → command ≡ Some (Ask (Lanes workers jobs)) → before.source.left ≡ Some input → length input ≤ most_input → set_of input ≡ Ok system
+    → result ≢ NoMemory → NoneFailed before after
     → LanesReported system workers jobs before after left result

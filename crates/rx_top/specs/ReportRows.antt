@@ -1,5 +1,6 @@
 -- Worked reports.
 use Rattle.std.specs.Prelude.{ℕ, ◌≡◌, refl, List, [], ◌∷◌, codes}
+use Rattle.std.specs.List.{concat}
 use Rattle.std.specs.Fmt.{digits}
 use Rattle.rx_seq.specs.declared.kinds.Kind.{Kind}
 use Rattle.rx_seq.specs.declared.kinds.Kind.TheVariants.{Cell, Queue}
@@ -30,7 +31,7 @@ work_alone = record {
   demands = [];
 }
 
-pub work_alone_report : report work_alone 10 ≡
+pub work_alone_report : concat (report work_alone 10) ≡
     codes "test yes\n0 release b 1\n1 release a 1\n1 preempt b 1 by a 1\n1 finish a 1\n3 finish b 1\n5 release a 2\n5 finish a 2\n8 release b 2\n9 release a 3\n9 preempt b 2 by a 3\n9 finish a 3\ntotal ticks 10 idle 3 released 5 finished 4 replies 0 retries 0 preempted 2 missed 0\n"
 unfolding digits
 work_alone_report = refl
@@ -44,13 +45,13 @@ retried = record {
   demands = [];
 }
 
-pub retried_report : report retried 10 ≡
+pub retried_report : concat (report retried 10) ≡
     codes "test yes\n0 release b 1\n2 release a 1\n2 preempt b 1 by a 1\n3 reply a 1 1 add c 1 -> done 1 tag 1\n3 finish a 1\n4 retry b 1 2 c tag 0 now 1\n6 reply b 1 2 add c 5 -> done 6 tag 2\n7 finish b 1\nobject c cell tag 2 state 6\ntotal ticks 10 idle 2 released 2 finished 2 replies 2 retries 1 preempted 1 missed 0\n"
 unfolding digits
 retried_report = refl
 
 -- a run of no ticks tells the objects as they are at first
-pub fresh_report : report retried 0 ≡
+pub fresh_report : concat (report retried 0) ≡
     codes "test yes\nobject c cell tag 0 state 0\ntotal ticks 0 idle 0 released 0 finished 0 replies 0 retries 0 preempted 0 missed 0\n"
 unfolding digits
 fresh_report = refl
@@ -64,7 +65,7 @@ apart = record {
   demands = [];
 }
 
-pub apart_report : report apart 5 ≡
+pub apart_report : concat (report apart 5) ≡
     codes "test yes\n0 release lo 1\n1 release hi 1\n1 preempt lo 1 by hi 1\n2 reply hi 1 1 add e 2 -> done 2 tag 1\n2 finish hi 1\n3 reply lo 1 1 add c 1 -> done 1 tag 1\n3 finish lo 1\nobject c cell tag 1 state 1\nobject e cell tag 1 state 2\ntotal ticks 5 idle 1 released 2 finished 2 replies 2 retries 0 preempted 1 missed 0\n"
 unfolding digits
 apart_report = refl
@@ -78,7 +79,7 @@ nested = record {
   demands = [];
 }
 
-pub nested_report : report nested 50 ≡
+pub nested_report : concat (report nested 50) ≡
     codes "test yes\n0 release c 1\n2 release b 1\n2 preempt c 1 by b 1\n4 release a 1\n4 preempt b 1 by a 1\n11 reply a 1 1 put q 7 -> done 1 tag 1\n11 finish a 1\n17 retry b 1 1 q tag 0 now 1\n25 reply b 1 1 take q -> done 7 tag 2\n25 finish b 1\n31 retry c 1 1 q tag 0 now 2\n39 reply c 1 1 take q -> empty tag 3\n39 finish c 1\nobject q queue tag 3 state\ntotal ticks 50 idle 10 released 3 finished 3 replies 3 retries 2 preempted 2 missed 0\n"
 unfolding digits
 nested_report = refl
@@ -87,7 +88,7 @@ nested_report = refl
 abbrev overload : System
 overload = record { policy = Rm; objects = []; tasks = task (codes "late") 2 0 (Work 3 ∷ []) ∷ []; demands = [] }
 
-pub overload_report : report overload 4 ≡
+pub overload_report : concat (report overload 4) ≡
     codes "test no rank 1\n0 release late 1\n2 miss late 1\n2 release late 2\n2 finish late 1\n4 miss late 2\ntotal ticks 4 idle 0 released 2 finished 1 replies 0 retries 0 preempted 0 missed 2\n"
 unfolding digits
 overload_report = refl
@@ -96,15 +97,15 @@ pub overload_misses : reported_misses overload 4 ≡ 2
 overload_misses = refl
 
 -- what the admission test says of three of these sets
-pub retried_admitted : fixed_report retried ≡ codes "test yes\nrank 1 a least 2 deadline 10\nrank 2 b least 8 deadline 20\n"
+pub retried_admitted : concat (fixed_report retried) ≡ codes "test yes\nrank 1 a least 2 deadline 10\nrank 2 b least 8 deadline 20\n"
 unfolding digits
 retried_admitted = refl
 
-pub nested_admitted : fixed_report nested ≡ codes "test yes\nrank 1 a least 8 deadline 100\nrank 2 b least 24 deadline 200\nrank 3 c least 40 deadline 400\n"
+pub nested_admitted : concat (fixed_report nested) ≡ codes "test yes\nrank 1 a least 8 deadline 100\nrank 2 b least 24 deadline 200\nrank 3 c least 40 deadline 400\n"
 unfolding digits
 nested_admitted = refl
 
-pub overload_refused : fixed_report overload ≡ codes "test no rank 1\nrank 1 late fails deadline 2\n"
+pub overload_refused : concat (fixed_report overload) ≡ codes "test no rank 1\nrank 1 late fails deadline 2\n"
 unfolding digits
 overload_refused = refl
 
@@ -112,11 +113,11 @@ overload_refused = refl
 abbrev made : ℕ → ℕ → Call → ℕ → ℕ → Entry
 made caller index call value tag = record { caller = caller; index = index; object = 0; call = call; reply = Done value; tag = tag }
 
-pub retried_shared : lanes_report retried 1 2 (made 1 2 (Add 5) 12 4 ∷ made 1 1 (Add 5) 7 3 ∷ made 0 2 (Add 1) 2 2 ∷ made 0 1 (Add 1) 1 1 ∷ []) ≡
+pub retried_shared : concat (lanes_report retried 1 2 (made 1 2 (Add 5) 12 4 ∷ made 1 1 (Add 5) 7 3 ∷ made 0 2 (Add 1) 2 2 ∷ made 0 1 (Add 1) 1 1 ∷ [])) ≡
     codes "lanes 1 jobs 2\na 1 1 add c 1 -> done 1 tag 1\na 2 1 add c 1 -> done 2 tag 2\nb 1 2 add c 5 -> done 7 tag 3\nb 2 2 add c 5 -> done 12 tag 4\nobject c cell tag 4 state 12\ntotal calls 4\n"
 unfolding digits
 retried_shared = refl
 
-pub overload_shared : lanes_report overload 2 3 [] ≡ codes "lanes 2 jobs 3\ntotal calls 0\n"
+pub overload_shared : concat (lanes_report overload 2 3 []) ≡ codes "lanes 2 jobs 3\ntotal calls 0\n"
 unfolding digits
 overload_shared = refl

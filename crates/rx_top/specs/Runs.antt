@@ -1,8 +1,7 @@
 -- What a run has written and counted so far.
-use Rattle.std.specs.Prelude.{ℕ, ◌≡◌, ◌≤◌, ◌+◌, ◌*◌, List, ◌++◌}
-use Rattle.std.specs.List.{All, flat_map}
-use Rattle.rx_seq.specs.declared.entries.Entry.{Entry}
-use Rattle.rx_set.specs.System.{System, numbers}
+use Rattle.std.specs.Prelude.{ℕ, ◌≡◌, ◌≤◌, ◌+◌, ◌*◌, List, [], ◌∷◌, ◌++◌, map}
+use Rattle.std.specs.List.{All}
+use Rattle.rx_set.specs.System.{System}
 use Rattle.rx_ledger.specs.declared.events.Event.{Event}
 use Rattle.rx_ledger.specs.declared.totals.Totals.{Totals}
 use Rattle.rx_ledger.specs.Counts.{AreBelow}
@@ -13,11 +12,11 @@ use Rattle.rx_tick.specs.Counts.{totals_of}
 use Rattle.rx_report.specs.Lines.{event_line, total_line}
 use Rattle.rx_port.specs.Plain.{Whole}
 use Rattle.rx_tick.specs.Banks.{IsBankOf}
-use Rattle.rx_top.specs.Report.{reported_events, run_totals, object_line_after, object_lines}
+use Rattle.rx_top.specs.Report.{reported_events, run_totals, object_lines}
 
 -- the lines of some events
-abbrev pub lines_of : System → List Event → List ℕ
-lines_of system told = flat_map (event_line system) told
+abbrev pub lines_of : System → List Event → List (List ℕ)
+lines_of system told = map (event_line system) told
 
 -- The totals are those of the first n slots. A slot has at most 131 events.
 pub record AreCounts (system : System) (n : ℕ) (totals : Totals) : Type 0 where
@@ -37,9 +36,5 @@ pub record IsRun (system : System) (n : ℕ) (ledger : List Event) (totals : Tot
   pub stands : IsBankOf system (slots system n) bank
 
 -- what is written after the events of the slots: the misses at the end, the objects and the totals
-abbrev pub end_lines : System → ℕ → List ℕ
-end_lines system n = lines_of system (misses system (slots system n)) ++ (object_lines system n ++ total_line (run_totals system n))
-
--- the lines of the first objects, after these entries
-abbrev pub first_objects : System → List Entry → ℕ → List ℕ
-first_objects system before count = flat_map (object_line_after system before) (numbers count)
+abbrev pub end_lines : System → ℕ → List (List ℕ)
+end_lines system n = lines_of system (misses system (slots system n)) ++ (object_lines system n ++ total_line (run_totals system n) ∷ [])

@@ -1,6 +1,5 @@
 -- What is written of the admission test of a set.
-use Rattle.std.specs.Prelude.{ℕ, ◌+◌, List, ◌++◌, length}
-use Rattle.std.specs.List.{flat_map}
+use Rattle.std.specs.Prelude.{ℕ, ◌+◌, List, [], ◌∷◌, map, length}
 use Rattle.rx_set.specs.declared.policies.Policy.{Policy}
 use Rattle.rx_set.specs.declared.policies.Policy.TheVariants.{Rm, Dm, Edf}
 use Rattle.rx_set.specs.System.{System, numbers}
@@ -24,18 +23,18 @@ abbrev pub rank_line_after : System → ℕ → List ℕ
 rank_line_after system place = rank_line system (place + 1) (least_time system (place + 1))
 
 -- the lines of the first ranks
-abbrev pub first_ranks : System → ℕ → List ℕ
-first_ranks system count = flat_map (rank_line_after system) (numbers count)
+abbrev pub first_ranks : System → ℕ → List (List ℕ)
+first_ranks system count = map (rank_line_after system) (numbers count)
 
--- all that is written of the test for fixed priorities: its line, and one for each rank
-abbrev pub fixed_report : System → List ℕ
-fixed_report system = fixed_line (verdict_of system) ++ first_ranks system (length system.tasks)
+-- the lines that are written of the test for fixed priorities: its own, and one for each rank
+abbrev pub fixed_report : System → List (List ℕ)
+fixed_report system = fixed_line (verdict_of system) ∷ first_ranks system (length system.tasks)
 
--- all that is written of the test of the set's policy; under earliest deadlines first its line alone
-abbrev pub admit_report_by : Policy → System → List ℕ
+-- the lines that are written of the test of the set's policy; under earliest deadlines first its own alone
+abbrev pub admit_report_by : Policy → System → List (List ℕ)
 admit_report_by Rm system = fixed_report system
 admit_report_by Dm system = fixed_report system
-admit_report_by Edf system = edf_line (edf_verdict_of system)
+admit_report_by Edf system = edf_line (edf_verdict_of system) ∷ []
 
-abbrev pub admit_report : System → List ℕ
+abbrev pub admit_report : System → List (List ℕ)
 admit_report system = admit_report_by system.policy system

@@ -1,6 +1,6 @@
 // In each window of drawn sets the retries are at most the preemptions.
 
-use crate::tops::new_executive;
+use crate::runs::new_executive;
 use rx_ledger::{Event, Ledger};
 use rx_set::generate;
 use rx_tick::{Executive, Tick};

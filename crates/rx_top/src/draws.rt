@@ -1,22 +1,28 @@
-//! The run of a drawn set, and what is told of its intervals.
-ghost use Rattle.std.specs.Prelude.{ℕ, ◌≡◌, ◌≤◌, ◌<◌, ◌+◌, ◌^◌, ◌++◌, [], length, fold, IfOk, OnOk};
+//! Drawing a set and running it, and writing what is told of its intervals.
+ghost use Rattle.std.specs.Prelude.{ℕ, ◌≡◌, ◌≤◌, ◌<◌, ◌+◌, ◌^◌, ◌++◌, [], ◌∷◌, length, fold, IfOk, OnOk};
 ghost use Rattle.std.specs.List.{All};
+ghost use Rattle.rx_io.specs.Ends.{MayBeCalled};
 ghost use Rattle.rx_io.specs.Causes.{Puts};
 ghost use Rattle.rx_ledger.specs.Counts.{AreBelow, counted, zeros};
 ghost use Rattle.rx_ledger.specs.Ledgers.{time_of};
 ghost use Rattle.rx_tick.specs.Executive.{moment};
+ghost use Rattle.rx_top.specs.declared.left.Left.TheVariants.{Nothing};
+ghost use Rattle.rx_top.specs.Outcome.{WritesAnswer, draw_answer};
 ghost use Rattle.rx_top.specs.Drawn.{drawn_report, first_windows, window_line_after, window_report};
 ghost use Rattle.rx_top.specs.Leaves.{IsBankLeft};
 ghost use Rattle.rx_top.specs.Runs.{AreNoted, IsRun};
 
 use crate::admits::put_test;
-use crate::runs::{put_objects, put_totals};
-use rx_io::{Failed, Sink, put};
+use crate::left::Left;
+use crate::objects::put_objects;
+use crate::runs::{new_executive, put_totals};
+use crate::stops::Stop;
+use rx_io::{Failed, Sink, Status, put};
 use rx_ledger::{Event, Ledger, Totals};
 use rx_port::Bank;
 use rx_report::{Line, window_line};
 use rx_seq::NoMemory;
-use rx_set::TaskSet;
+use rx_set::{TaskSet, generate};
 use rx_tick::laws::{events_have_their_time, replies_and_retries_are_told};
 use rx_tick::{Executive, Tick};
 use std::alloc::Global;
@@ -92,14 +98,14 @@ fn note_slots(
 
 /// What is noted of a run: its events, their totals, and the bank on which the attempts were made.
 #[derive(Drop)]
-pub(crate) struct Noted {
-    pub ledger: Ledger,
-    pub totals: Totals,
-    pub bank: Bank,
+struct Noted {
+    ledger: Ledger,
+    totals: Totals,
+    bank: Bank,
 }
 
 /// Runs an executive from its start for so many slots, and notes all events and the misses of the last time.
-pub(crate) fn note_run(
+fn note_run(
     alloc: Global,
     set: &TaskSet,
     mut executive: Executive,
@@ -140,10 +146,9 @@ fn put_window<K: Sink>(
     line: &mut Line,
     sink: &mut K,
 ) -> Result<(), Failed>
-    requires faults { K.faults sink.old < 2 ^ 63 }
+    requires up { MayBeCalled (K.tells sink.old).failures }
     requires place { place < 10 }
-    ensures { Puts (K.taken sink.old) (K.taken sink.new) (K.faults sink.old) (K.faults sink.new)
-        result (window_line_after ledger.now place) }
+    ensures { Puts (K.tells sink.old) (K.tells sink.new) result (window_line_after ledger.now place ∷ []) }
 {
     let a = place * WINDOW_TICKS;
     let b = place * WINDOW_TICKS + WINDOW_TICKS;
@@ -155,15 +160,11 @@ fn put_window<K: Sink>(
 
 /// Hands in the lines of the intervals.
 fn put_windows<K: Sink>(ledger: &Ledger, line: &mut Line, sink: &mut K) -> Result<(), Failed>
-    requires faults { K.faults sink.old < 2 ^ 63 }
-    ensures { Puts (K.taken sink.old) (K.taken sink.new) (K.faults sink.old) (K.faults sink.new)
-        result (first_windows ledger.now 10) }
+    requires up { MayBeCalled (K.tells sink.old).failures }
+    ensures { Puts (K.tells sink.old) (K.tells sink.new) result (first_windows ledger.now 10) }
 {
     for place in 0..WINDOWS {
-        match put_window(ledger, place, line, sink) {
-            Ok(()) => {}
-            Err(Failed) => return Err(Failed),
-        }
+        put_window(ledger, place, line, sink)?;
     }
     Ok(())
 }
@@ -175,32 +176,45 @@ fn write_noted<K: Sink>(
     line: &mut Line,
     sink: &mut K,
 ) -> Result<(), Failed>
-    requires faults { K.faults sink.old < 2 ^ 63 }
+    requires up { MayBeCalled (K.tells sink.old).failures }
     requires run { (ticks : ℕ) × IsRun set.now ticks run.now.ledger run.now.totals run.now.bank }
     ensures { (ticks : ℕ) → IsRun set.now ticks run.now.ledger run.now.totals run.now.bank
-        → Puts (K.taken sink.old) (K.taken sink.new) (K.faults sink.old) (K.faults sink.new) result (window_report set.now ticks) }
+        → Puts (K.tells sink.old) (K.tells sink.new) result (window_report set.now ticks) }
 {
-    match put_windows(&run.ledger, line, sink) {
-        Ok(()) => {}
-        Err(Failed) => return Err(Failed),
-    }
-    match put_objects(set, &run.bank, line, sink) {
-        Ok(()) => put_totals(&run.totals, line, sink),
-        Err(Failed) => Err(Failed),
-    }
+    put_windows(&run.ledger, line, sink)?;
+    put_objects(set, &run.bank, line, sink)?;
+    put_totals(&run.totals, line, sink)
 }
 
 /// Hands in the report of a drawn set, line by line. It takes no memory.
-pub(crate) fn write_drawn<K: Sink>(set: &TaskSet, run: &Noted, sink: &mut K) -> Result<(), Failed>
-    requires faults { K.faults sink.old < 2 ^ 63 }
+fn write_drawn<K: Sink>(set: &TaskSet, run: &Noted, sink: &mut K) -> Result<(), Failed>
+    requires up { MayBeCalled (K.tells sink.old).failures }
     requires run { (ticks : ℕ) × IsRun set.now ticks run.now.ledger run.now.totals run.now.bank }
     ensures { (ticks : ℕ) → IsRun set.now ticks run.now.ledger run.now.totals run.now.bank
-        → Puts (K.taken sink.old) (K.taken sink.new) (K.faults sink.old) (K.faults sink.new) result (drawn_report set.now ticks) }
+        → Puts (K.tells sink.old) (K.tells sink.new) result (drawn_report set.now ticks) }
 {
     let mut line = Line::new();
-    match put_test(set, &mut line, sink) {
-        Ok(()) => {}
-        Err(Failed) => return Err(Failed),
-    }
+    put_test(set, &mut line, sink)?;
     write_noted(set, run, &mut line, sink)
+}
+
+/// Draws the set of a number, runs it for so many slots, tells the intervals of its schedule, and leaves its bank.
+pub(crate) fn draw<K: Sink>(
+    alloc: Global,
+    number: u64,
+    ticks: u64,
+    sink: &mut K,
+    left: &mut Left,
+) -> Result<Status, Stop>
+    requires up { MayBeCalled (K.tells sink.old).failures }
+    requires limits { ticks ≤ 1000000 }
+    requires nothing { left.old ≡ Nothing }
+    ensures { WritesAnswer (draw_answer ticks number) (K.tells sink.old) (K.tells sink.new) left.new result }
+{
+    let set = generate(alloc, number)?;
+    let executive = new_executive(alloc, &set)?;
+    let run = note_run(alloc, &set, executive, ticks)?;
+    write_drawn(&set, &run, sink)?;
+    *left = Left::Bank { bank: run.bank };
+    Ok(Status::Done)
 }

@@ -62,11 +62,12 @@ fn leaves_the_table_of_the_lanes(rt: HostRuntime) -> Result<(), Fail> {
             value: 6,
         },
     ] {
-        let Ending {
-            status,
-            taken: _taken,
-            left,
-        } = answer(&rt, rt.alloc(), &Case::new(want.words, SHARED), &NoGate)?;
+        let Ending { status, left, .. } = answer(
+            &rt,
+            rt.alloc(),
+            &Case::new(want.words, SHARED),
+            &NoGate,
+        )?;
         assert_eq!(&rt; status, Status::Done, "{} lanes", want.seats);
         let Left::Closed { closed } = left else {
             return Err("no table".into());

@@ -12,13 +12,14 @@ mod draws;
 mod lane_tests;
 mod lanes;
 mod left;
+mod objects;
 mod runs;
-mod status;
+mod stops;
 #[cfg(test)]
 mod tests;
 mod tops;
 mod words;
 
 pub use left::Left;
-pub use status::Status;
+pub use rx_io::Status;
 pub use tops::top;

@@ -1,26 +1,36 @@
-//! Writing a run.
-ghost use Rattle.std.specs.Prelude.{◌≡◌, ◌≤◌, ◌<◌, ◌+◌, ◌^◌, List, length, fold, IfOk, OnOk};
-ghost use Rattle.rx_set.specs.System.{parts_of};
+//! Running a set, and writing its schedule.
+ghost use Rattle.std.specs.Prelude.{◌≡◌, ◌≤◌, ◌<◌, ◌+◌, ◌^◌, [], ◌∷◌, Some, length, fold, IfOk, OnOk};
+ghost use Rattle.rx_io.specs.Ends.{MayBeCalled};
+ghost use Rattle.rx_io.specs.Causes.{Puts};
+ghost use Rattle.rx_set.specs.Valid.{IsValid};
 ghost use Rattle.rx_ledger.specs.Counts.{AreBelow, counted, zeros};
+ghost use Rattle.rx_port.specs.Seats.{no_counts};
 ghost use Rattle.rx_tick.specs.Banks.{IsBankOf};
 ghost use Rattle.rx_tick.specs.Executive.{moment};
-ghost use Rattle.rx_io.specs.Causes.{Puts};
-ghost use Rattle.rx_tick.specs.Schedule.{Slot, history, slots, slot_at};
+ghost use Rattle.rx_tick.specs.Schedule.{slots, slot_at};
 ghost use Rattle.rx_tick.specs.Events.{events, events_of, misses};
 ghost use Rattle.rx_report.specs.Lines.{total_line};
-ghost use Rattle.rx_top.specs.Report.{report, schedule_lines, run_totals, reported_misses, object_line_after};
+ghost use Rattle.rx_top.specs.declared.left.Left.TheVariants.{Nothing};
+ghost use Rattle.rx_top.specs.Report.{report, schedule_lines, run_totals, reported_misses};
 ghost use Rattle.rx_top.specs.Leaves.{IsBankLeft};
-ghost use Rattle.rx_top.specs.Runs.{lines_of, AreCounts, end_lines, first_objects};
+ghost use Rattle.rx_top.specs.Outcome.{WritesAnswer, run_answer};
+ghost use Rattle.rx_top.specs.Runs.{lines_of, AreCounts, end_lines};
 
 use crate::admits::put_test;
-use rx_io::{Failed, Sink, put};
+use crate::left::Left;
+use crate::objects::put_objects;
+use crate::stops::Stop;
+use arrayvec::ArrayVec;
+use rx_io::{Failed, Sink, Status, put};
 use rx_ledger::{Event, Totals};
 use rx_port::Bank;
-use rx_report::{Line, event_line, object_line, total_line};
-use rx_seq::State;
+use rx_report::{Line, event_line, total_line};
+use rx_seq::NoMemory;
 use rx_set::TaskSet;
+use rx_shape::Layout;
 use rx_tick::laws::replies_and_retries_are_told;
 use rx_tick::{Executive, Tick};
+use std::alloc::Global;
 
 /// Counts events, and hands in the line of each.
 fn put_events<K: Sink>(
@@ -30,20 +40,16 @@ fn put_events<K: Sink>(
     line: &mut Line,
     sink: &mut K,
 ) -> Result<(), Failed>
-    requires faults { K.faults sink.old < 2 ^ 63 }
+    requires up { MayBeCalled (K.tells sink.old).failures }
     requires few { length events.now ≤ 131 }
     requires small { AreBelow (2 ^ 62) totals.old }
-    ensures puts { Puts (K.taken sink.old) (K.taken sink.new) (K.faults sink.old) (K.faults sink.new)
-        result (lines_of set.now events.now) }
+    ensures puts { Puts (K.tells sink.old) (K.tells sink.new) result (lines_of set.now events.now) }
     ensures totals { OnOk result (totals.new ≡ fold counted totals.old events.now) }
 {
     for event in events {
         totals.count(event);
         event_line(set, event, line);
-        match put(sink, line.as_slice()) {
-            Ok(()) => {}
-            Err(Failed) => return Err(Failed),
-        }
+        put(sink, line.as_slice())?;
     }
     Ok(())
 }
@@ -54,9 +60,8 @@ pub(crate) fn put_totals<K: Sink>(
     line: &mut Line,
     sink: &mut K,
 ) -> Result<(), Failed>
-    requires { K.faults sink.old < 2 ^ 63 }
-    ensures { Puts (K.taken sink.old) (K.taken sink.new) (K.faults sink.old) (K.faults sink.new)
-        result (total_line totals.now) }
+    requires { MayBeCalled (K.tells sink.old).failures }
+    ensures { Puts (K.tells sink.old) (K.tells sink.new) result (total_line totals.now ∷ []) }
 {
     total_line(totals, line);
     put(sink, line.as_slice())
@@ -71,13 +76,12 @@ fn write_slot<K: Sink>(
     line: &mut Line,
     sink: &mut K,
 ) -> Result<(), Failed>
-    requires faults { K.faults sink.old < 2 ^ 63 }
+    requires up { MayBeCalled (K.tells sink.old).failures }
     requires system { executive.old.system ≡ set.now }
     requires time { executive.old.time < 1000000 }
     requires counts { AreCounts set.now executive.old.time totals.old }
     ensures next { executive.new ≡ moment set.now (executive.old.time + 1) executive.new.bank }
-    ensures puts { Puts (K.taken sink.old) (K.taken sink.new) (K.faults sink.old) (K.faults sink.new)
-        result (lines_of set.now
+    ensures puts { Puts (K.tells sink.old) (K.tells sink.new) result (lines_of set.now
         (events_of set.now (slots set.now executive.old.time) (slot_at set.now executive.old.time))) }
     ensures counts { OnOk result (AreCounts set.now (executive.old.time + 1) totals.new) }
 {
@@ -99,63 +103,16 @@ fn write_slots<K: Sink>(
     line: &mut Line,
     sink: &mut K,
 ) -> Result<(), Failed>
-    requires faults { K.faults sink.old < 2 ^ 63 }
+    requires up { MayBeCalled (K.tells sink.old).failures }
     requires ticks { ticks ≤ 1000000 }
     requires start { executive.old ≡ moment set.now 0 executive.old.bank }
     requires zeros { totals.old ≡ zeros }
     ensures end { OnOk result (executive.new ≡ moment set.now ticks executive.new.bank) }
-    ensures puts { Puts (K.taken sink.old) (K.taken sink.new) (K.faults sink.old) (K.faults sink.new)
-        result (lines_of set.now (events set.now ticks)) }
+    ensures puts { Puts (K.tells sink.old) (K.tells sink.new) result (lines_of set.now (events set.now ticks)) }
     ensures counts { OnOk result (AreCounts set.now ticks totals.new) }
 {
     while executive.now() < ticks {
-        match write_slot(set, executive, tick, totals, line, sink) {
-            Ok(()) => {}
-            Err(Failed) => return Err(Failed),
-        }
-    }
-    Ok(())
-}
-
-/// Hands in the line of an object, after all slots.
-fn put_object<K: Sink>(
-    set: &TaskSet,
-    bank: &Bank,
-    object: u32,
-    line: &mut Line,
-    sink: &mut K,
-) -> Result<(), Failed>
-    requires faults { K.faults sink.old < 2 ^ 63 }
-    requires object { object < length set.now.objects }
-    requires parts { bank.now.layout.parts ≡ parts_of set.now }
-    ensures { (past : List Slot) → IsBankOf set.now past bank.now → Puts (K.taken sink.old) (K.taken sink.new) (K.faults sink.old) (K.faults sink.new)
-        result (object_line_after set.now (history past) object) }
-{
-    let mut state = State::new();
-    bank.state(object, &mut state);
-    object_line(set, object, bank.tag(object), &state, line);
-    put(sink, line.as_slice())
-}
-
-/// Hands in the lines of the objects, after all slots.
-pub(crate) fn put_objects<K: Sink>(
-    set: &TaskSet,
-    bank: &Bank,
-    line: &mut Line,
-    sink: &mut K,
-) -> Result<(), Failed>
-    requires faults { K.faults sink.old < 2 ^ 63 }
-    requires bank { (past : List Slot) × IsBankOf set.now past bank.now }
-    ensures { (past : List Slot) → IsBankOf set.now past bank.now → Puts (K.taken sink.old) (K.taken sink.new) (K.faults sink.old) (K.faults sink.new)
-        result (first_objects set.now (history past) (length set.now.objects)) }
-{
-    // That the set is valid, so that it has at most 16 objects.
-    let _tasks = set.tasks();
-    for object in 0..set.objects().len() {
-        match put_object(set, bank, object as u32, line, sink) {
-            Ok(()) => {}
-            Err(Failed) => return Err(Failed),
-        }
+        write_slot(set, executive, tick, totals, line, sink)?;
     }
     Ok(())
 }
@@ -170,32 +127,26 @@ fn write_end<K: Sink>(
     line: &mut Line,
     sink: &mut K,
 ) -> Result<(), Failed>
-    requires faults { K.faults sink.old < 2 ^ 63 }
+    requires up { MayBeCalled (K.tells sink.old).failures }
     requires bank { IsBankOf set.now (slots set.now ticks) bank.now }
     requires ticks { ticks ≤ 1000000 }
     requires few { length late.now ≤ 131 }
     requires late { late.now ≡ misses set.now (slots set.now ticks) }
     requires counts { AreCounts set.now ticks totals.old }
-    ensures puts { Puts (K.taken sink.old) (K.taken sink.new) (K.faults sink.old) (K.faults sink.new)
-        result (end_lines set.now ticks) }
+    ensures puts { Puts (K.tells sink.old) (K.tells sink.new) result (end_lines set.now ticks) }
     ensures totals { OnOk result (totals.new ≡ run_totals set.now ticks) }
 {
-    match put_events(set, late, totals, line, sink) {
-        Ok(()) => {}
-        Err(Failed) => return Err(Failed),
-    }
-    match put_objects(set, bank, line, sink) {
-        Ok(()) => put_totals(totals, line, sink),
-        Err(Failed) => Err(Failed),
-    }
+    put_events(set, late, totals, line, sink)?;
+    put_objects(set, bank, line, sink)?;
+    put_totals(totals, line, sink)
 }
 
 /// What a run leaves.
-pub(crate) struct Ended {
+struct Ended {
     /// How many misses its report tells.
-    pub missed: u64,
+    missed: u64,
     /// The bank on which it made its attempts.
-    pub bank: Bank,
+    bank: Bank,
 }
 
 /// Runs an executive from its start for so many slots, hands in the lines of its schedule, and answers how many misses
@@ -207,17 +158,16 @@ fn write_schedule<K: Sink>(
     line: &mut Line,
     sink: &mut K,
 ) -> Result<Ended, Failed>
-    requires faults { K.faults sink.old < 2 ^ 63 }
+    requires up { MayBeCalled (K.tells sink.old).failures }
     requires ticks { ticks ≤ 1000000 }
     requires start { executive ≡ moment set.now 0 executive.bank }
-    ensures puts { Puts (K.taken sink.old) (K.taken sink.new) (K.faults sink.old) (K.faults sink.new)
-        result (schedule_lines set.now ticks) }
+    ensures puts { Puts (K.tells sink.old) (K.tells sink.new) result (schedule_lines set.now ticks) }
     ensures misses { IfOk result (λ ended. ended.missed ≡ reported_misses set.now ticks) }
     ensures bank { IfOk result (λ ended. IsBankLeft set.now ticks ended.bank) }
 {
     let mut tick = Tick::new();
     let mut totals = Totals::new();
-    match write_slots(
+    write_slots(
         set,
         &mut executive,
         ticks,
@@ -225,14 +175,11 @@ fn write_schedule<K: Sink>(
         &mut totals,
         line,
         sink,
-    ) {
-        Ok(()) => {}
-        Err(Failed) => return Err(Failed),
-    }
+    )?;
     executive.late(&mut tick);
     replies_and_retries_are_told();
     let bank = executive.into_bank();
-    match write_end(
+    write_end(
         set,
         &bank,
         ticks,
@@ -240,35 +187,73 @@ fn write_schedule<K: Sink>(
         &mut totals,
         line,
         sink,
-    ) {
-        Ok(()) => Ok(Ended {
-            missed: totals.missed,
-            bank,
-        }),
-        Err(Failed) => Err(Failed),
-    }
+    )?;
+    Ok(Ended {
+        missed: totals.missed,
+        bank,
+    })
 }
 
 /// Hands in the line of the set's admission test, and then runs an executive from its start for so many slots and hands
 /// in the lines of its schedule. Answers how many misses they tell, with the bank. It takes no memory.
-pub(crate) fn write_run<K: Sink>(
+fn write_run<K: Sink>(
     set: &TaskSet,
     executive: Executive,
     ticks: u64,
     sink: &mut K,
 ) -> Result<Ended, Failed>
-    requires faults { K.faults sink.old < 2 ^ 63 }
+    requires up { MayBeCalled (K.tells sink.old).failures }
     requires ticks { ticks ≤ 1000000 }
     requires start { executive ≡ moment set.now 0 executive.bank }
-    ensures puts { Puts (K.taken sink.old) (K.taken sink.new) (K.faults sink.old) (K.faults sink.new)
-        result (report set.now ticks) }
+    ensures puts { Puts (K.tells sink.old) (K.tells sink.new) result (report set.now ticks) }
     ensures misses { IfOk result (λ ended. ended.missed ≡ reported_misses set.now ticks) }
     ensures bank { IfOk result (λ ended. IsBankLeft set.now ticks ended.bank) }
 {
     let mut line = Line::new();
-    match put_test(set, &mut line, sink) {
-        Ok(()) => {}
-        Err(Failed) => return Err(Failed),
-    }
+    put_test(set, &mut line, sink)?;
     write_schedule(set, executive, ticks, &mut line, sink)
+}
+
+/// The bank of a set before its first slot: its objects with the tag 0, and a seat for each task.
+fn new_bank(alloc: Global, set: &TaskSet) -> Result<Bank, NoMemory>
+    ensures bank { IfOk result (IsBankOf set.now []) }
+    ensures counts { IfOk result (λ bank. bank.core.counts ≡ Some no_counts) }
+{
+    let mut parts = ArrayVec::new();
+    set.parts(&mut parts);
+    let layout = Layout::new(alloc, parts.as_slice(), set.tasks().len() as u32, 0)?;
+    Bank::new(alloc, layout)
+}
+
+/// The executive of a set before its first slot.
+pub(crate) fn new_executive<'s>(alloc: Global, set: &'s TaskSet) -> Result<Executive<'s>, NoMemory>
+    ensures start { IfOk result (λ executive. executive ≡ moment set.now 0 executive.bank) }
+    ensures counts { IfOk result (λ executive. executive.bank.core.counts ≡ Some no_counts) }
+{
+    let bank = new_bank(alloc, set)?;
+    Executive::new(alloc, set, bank)
+}
+
+/// Runs a set, writes the report of its schedule, and leaves its bank.
+pub(crate) fn run_set<K: Sink>(
+    alloc: Global,
+    ticks: u64,
+    set: &TaskSet,
+    sink: &mut K,
+    left: &mut Left,
+) -> Result<Status, Stop>
+    requires valid { IsValid set.now }
+    requires up { MayBeCalled (K.tells sink.old).failures }
+    requires limits { ticks ≤ 1000000 }
+    requires nothing { left.old ≡ Nothing }
+    ensures { WritesAnswer (run_answer ticks set.now) (K.tells sink.old) (K.tells sink.new) left.new result }
+{
+    let executive = new_executive(alloc, set)?;
+    let Ended { missed, bank } = write_run(set, executive, ticks, sink)?;
+    *left = Left::Bank { bank };
+    Ok(if missed == 0 {
+        Status::Done
+    } else {
+        Status::Adverse
+    })
 }

@@ -1,9 +1,9 @@
 // What a run of the program cannot show: sources and sinks that fail midway or move few bytes a call, what is left, and
 // that served sets are never late. Whole runs are the cases of the built program.
-ghost use Rattle.std.specs.Prelude.{◌<◌, ◌^◌};
+ghost use Rattle.rx_io.specs.Ends.{MayBeCalled};
 
 use super::*;
-use crate::tops::new_executive;
+use crate::runs::new_executive;
 use rx_fixed::{Verdict, test};
 use rx_io::{InSource, MemorySink, MemorySource, OutSink, Sink, Source};
 use rx_lanes::{Gate, NoGate};
@@ -14,7 +14,7 @@ use rx_set::{Policy, TaskSet, generate};
 use rx_tick::{Executive, Tick};
 use std::alloc::{AllocError, Global};
 use std::io;
-use std::io::{ErrorKind, Read, Write};
+use std::io::Read;
 use std::test::Fail;
 use std::thread::Threads;
 
@@ -112,8 +112,8 @@ fn call<S: Source, K: Sink, G: Gate + Sync>(
     sink: &mut K,
     gate: &G,
 ) -> Result<(Status, Left), AllocError>
-    requires source { S.faults source.old < 2 ^ 63 }
-    requires sink { K.faults sink.old < 2 ^ 63 }
+    requires source { MayBeCalled (S.tells source.old).failures }
+    requires sink { MayBeCalled (K.tells sink.old).failures }
 {
     let words = split(alloc, text)?;
     let mut left = Left::Nothing;
@@ -126,11 +126,14 @@ fn call<S: Source, K: Sink, G: Gate + Sync>(
 pub(crate) struct Case {
     pub words: &'static str,
     pub input: &'static str,
-    /// The most bytes that a call moves.
-    pub step: usize,
+    /// The most bytes that a call of the source gives, and that one of the sink takes.
+    pub read_step: usize,
+    pub write_step: usize,
     /// The number of the call of the source that fails, and of the sink; 0 where none does.
     pub read_fails: u64,
     pub write_fails: u64,
+    /// The most bytes that the sink takes.
+    pub room: usize,
 }
 
 impl Case {
@@ -139,19 +142,24 @@ impl Case {
         Case {
             words,
             input,
-            step: 4096,
+            read_step: 4096,
+            write_step: 4096,
             read_fails: 0,
             write_fails: 0,
+            room: 16_384,
         }
     }
 }
 
-/// How a call of `top` ended: its status, the bytes that its sink took, and what is left.
+/// How a call of `top` ended: its status, the bytes that its sink took, what is left, and how often the source and the
+/// sink were called.
 #[derive(Drop)]
 pub(crate) struct Ending {
     pub status: Status,
     pub taken: Vec<u8>,
     pub left: Left,
+    pub reads: u64,
+    pub writes: u64,
 }
 
 /// Calls `top` as a case says.
@@ -161,12 +169,17 @@ pub(crate) fn answer<G: Gate + Sync>(
     case: &Case,
     gate: &G,
 ) -> Result<Ending, Fail> {
-    if case.step == 0 {
+    if case.read_step == 0 || case.write_step == 0 {
         return Err("no step".into());
     }
     let bytes = case.input.as_bytes().to_vec(alloc)?;
-    let mut source = MemorySource::new(bytes, case.step, [case.read_fails].to_vec(alloc)?);
-    let made = MemorySink::new(alloc, 16_384, case.step, [case.write_fails].to_vec(alloc)?);
+    let mut source = MemorySource::new(bytes, case.read_step, [case.read_fails].to_vec(alloc)?);
+    let made = MemorySink::new(
+        alloc,
+        case.room,
+        case.write_step,
+        [case.write_fails].to_vec(alloc)?,
+    );
     let mut sink = made.map_err(|_| "no memory")?;
     let (status, left) = call(rt, alloc, case.words, &mut source, &mut sink, gate)?;
     let taken = sink.taken().to_vec(alloc)?;
@@ -174,14 +187,18 @@ pub(crate) fn answer<G: Gate + Sync>(
         status,
         taken,
         left,
+        reads: source.calls(),
+        writes: sink.calls(),
     })
 }
 
-/// Whether a call of `top` ended so, and left no words.
-fn ends_so(ending: &Ending, status: Status, taken: &[u8]) -> bool {
+/// Whether a call of `top` ended so after so many calls of the source and of the sink, and left no words.
+fn ends_so(ending: &Ending, status: Status, taken: &[u8], reads: u64, writes: u64) -> bool {
     ending.status == status
         && ending.taken.as_slice() == taken
         && matches!(&ending.left, Left::Nothing)
+        && ending.reads == reads
+        && ending.writes == writes
 }
 
 /// A command on the two tasks that share a cell, with its whole report, and how many lines that has.
@@ -214,7 +231,8 @@ const REPORTS: [Report; 3] = [
 fn moves_one_byte_a_call(rt: HostRuntime) -> Result<(), Fail> {
     for report in REPORTS {
         let case = Case {
-            step: 1,
+            read_step: 1,
+            write_step: 1,
             ..Case::new(report.words, SHARED)
         };
         let ending = answer(&rt, rt.alloc(), &case, &NoGate)?;
@@ -225,26 +243,38 @@ fn moves_one_byte_a_call(rt: HostRuntime) -> Result<(), Fail> {
             "{}",
             report.words
         );
+        // The last call of the source finds the end.
+        assert_eq!(&rt; ending.reads, SHARED.len() as u64 + 1);
+        assert_eq!(&rt; ending.writes, report.text.len() as u64);
     }
     Ok(())
 }
 
 #[test]
-fn a_failed_read_writes_and_leaves_nothing(rt: HostRuntime) -> Result<(), Fail> {
+fn a_failed_read_is_the_last_call(rt: HostRuntime) -> Result<(), Fail> {
     for report in REPORTS {
-        for read_fails in 1..3 {
+        let calls = SHARED.len() as u64 / 16 + 2;
+        for read_fails in 1..=calls {
             let case = Case {
-                step: 16,
+                read_step: 16,
                 read_fails,
                 ..Case::new(report.words, SHARED)
             };
             let ending = answer(&rt, rt.alloc(), &case, &NoGate)?;
             assert!(&rt;
-                ends_so(&ending, Status::ReadFault, b""),
-                "{}",
+                ends_so(&ending, Status::ReadFault, b"", read_fails, 0),
+                "{} {read_fails}",
                 report.words
             );
         }
+        let case = Case {
+            read_step: 16,
+            read_fails: calls + 1,
+            ..Case::new(report.words, SHARED)
+        };
+        let ending = answer(&rt, rt.alloc(), &case, &NoGate)?;
+        assert_eq!(&rt; ending.status, Status::Done, "{}", report.words);
+        assert_eq!(&rt; ending.reads, calls, "{}", report.words);
     }
     Ok(())
 }
@@ -262,7 +292,7 @@ fn lines_before(alloc: Global, text: &str, number: u64) -> Result<Vec<u8>, Alloc
     Ok(bytes)
 }
 
-/// Whether the lines before one are taken where the call that hands it in fails, and nothing is left.
+/// Whether the lines before one are taken where the call that hands it in fails, which is the last one.
 fn is_cut_before(
     rt: &(impl Threads + Sync),
     alloc: Global,
@@ -275,12 +305,11 @@ fn is_cut_before(
     };
     let ending = answer(rt, alloc, &case, &NoGate)?;
     let want = lines_before(alloc, report.text, line)?;
-    Ok(ends_so(&ending, Status::WriteFault, want.as_slice()))
+    Ok(ends_so(&ending, Status::WriteFault, want.as_slice(), 2, line))
 }
 
 #[test]
-fn a_failed_write_leaves_a_front(rt: HostRuntime) -> Result<(), Fail> {
-    // Each line is handed in by one call.
+fn a_failed_write_is_the_last_call(rt: HostRuntime) -> Result<(), Fail> {
     for report in REPORTS {
         for line in 1..=report.lines {
             assert!(&rt;
@@ -294,118 +323,68 @@ fn a_failed_write_leaves_a_front(rt: HostRuntime) -> Result<(), Fail> {
 }
 
 #[test]
-fn a_failed_write_leaves_a_front_of_the_other_answers(rt: HostRuntime) -> Result<(), Fail> {
-    let drawn = Case {
-        write_fails: 2,
-        ..Case::new("gen 0", "")
+fn each_line_is_one_call(rt: HostRuntime) -> Result<(), Fail> {
+    for report in REPORTS {
+        let ending = answer(&rt, rt.alloc(), &Case::new(report.words, SHARED), &NoGate)?;
+        assert_eq!(&rt; ending.status, Status::Done, "{}", report.words);
+        assert_eq!(&rt; ending.writes, report.lines, "{}", report.words);
+    }
+    Ok(())
+}
+
+#[test]
+fn a_failed_write_cuts_a_line(rt: HostRuntime) -> Result<(), Fail> {
+    // The sink takes a byte a call, or has no more room.
+    let steps = Case {
+        write_step: 1,
+        write_fails: 14,
+        ..Case::new("run 10", SHARED)
+    };
+    let full = Case {
+        room: 13,
+        ..Case::new("run 10", SHARED)
     };
     let fault = Case {
-        step: 1,
+        write_step: 1,
         write_fails: 3,
         ..Case::new("run 10", "")
     };
     let words = Case {
-        step: 2,
+        write_step: 2,
         write_fails: 3,
         ..Case::new("runs 10", "")
     };
-    let ending = answer(&rt, rt.alloc(), &drawn, &NoGate)?;
-    assert!(&rt; ends_so(&ending, Status::WriteFault, b"test yes\n"));
-    let ending = answer(&rt, rt.alloc(), &fault, &NoGate)?;
-    assert!(&rt; ends_so(&ending, Status::WriteFault, b"se"));
-    let ending = answer(&rt, rt.alloc(), &words, &NoGate)?;
-    assert!(&rt; ends_so(&ending, Status::WriteFault, b"word"));
-    Ok(())
-}
-
-/// Gives one byte, and then fails. It counts its calls.
-#[derive(Drop)]
-struct OneByte {
-    calls: u64,
-}
-
-impl Read for OneByte {
-    fn read(&mut self, buf: &mut [u8]) -> io::Result<usize> {
-        self.calls = self.calls.saturating_add(1);
-        if self.calls == 1 {
-            Ok(buf.len().min(1))
-        } else {
-            Err(io::Error::from(ErrorKind::Other))
-        }
-    }
-}
-
-/// Takes all of its first piece, and then fails. It counts its calls.
-#[derive(Drop)]
-struct OnePiece {
-    calls: u64,
-}
-
-impl Write for OnePiece {
-    fn write(&mut self, buf: &[u8]) -> io::Result<usize> {
-        self.calls = self.calls.saturating_add(1);
-        if self.calls == 1 {
-            Ok(buf.len())
-        } else {
-            Err(io::Error::from(ErrorKind::Other))
-        }
-    }
-
-    fn flush(&mut self) -> io::Result<()> {
-        Ok(())
-    }
-}
-
-/// Answers the words from a reader of one byte. Gives the status, and how often the reader and the writer were called.
-fn calls_of_one_byte(
-    rt: &(impl Threads + Sync),
-    alloc: Global,
-    text: &str,
-) -> Result<(Status, u64, u64), AllocError> {
-    let mut source = InSource::new(OneByte { calls: 0 });
-    let mut sink = OutSink::new(OnePiece { calls: 0 });
-    let (status, _left) = call(rt, alloc, text, &mut source, &mut sink, &NoGate)?;
-    Ok((status, source.into_inner().calls, sink.into_inner().calls))
-}
-
-#[test]
-fn nothing_is_called_after_a_failed_read(rt: HostRuntime) -> Result<(), Fail> {
-    for report in REPORTS {
-        let calls = calls_of_one_byte(&rt, rt.alloc(), report.words)?;
-        assert_eq!(&rt; calls, (Status::ReadFault, 2, 0), "{}", report.words);
+    for (case, taken, reads, writes) in [
+        (steps, "test yes\n0 re", 2, 14),
+        (full, "test yes\n0 re", 2, 3),
+        (fault, "se", 1, 3),
+        (words, "word", 0, 3),
+    ] {
+        let ending = answer(&rt, rt.alloc(), &case, &NoGate)?;
+        assert!(&rt;
+            ends_so(&ending, Status::WriteFault, taken.as_bytes(), reads, writes),
+            "{taken}"
+        );
     }
     Ok(())
 }
 
 #[test]
-fn what_reads_nothing_never_calls_the_reader(rt: HostRuntime) -> Result<(), Fail> {
-    let calls = calls_of_one_byte(&rt, rt.alloc(), "run 1000001")?;
-    assert_eq!(&rt; calls, (Status::Words, 0, 1));
-    let calls = calls_of_one_byte(&rt, rt.alloc(), "gen 0")?;
-    assert_eq!(&rt; calls, (Status::WriteFault, 0, 2));
-    Ok(())
-}
-
-/// Answers the words over the two tasks that share a cell to a writer of one piece. Gives the status, what is left, and
-/// how often the writer was called.
-fn calls_of_one_piece(
-    rt: &(impl Threads + Sync),
-    alloc: Global,
-    text: &str,
-) -> Result<(Status, Left, u64), AllocError> {
-    let mut source = InSource::new(SHARED.as_bytes());
-    let mut sink = OutSink::new(OnePiece { calls: 0 });
-    let (status, left) = call(rt, alloc, text, &mut source, &mut sink, &NoGate)?;
-    Ok((status, left, sink.into_inner().calls))
-}
-
-#[test]
-fn nothing_is_called_after_a_failed_write(rt: HostRuntime) -> Result<(), Fail> {
-    for words in ["run 10", "admit", "lanes 1 2", "gen 0"] {
-        let (status, left, calls) = calls_of_one_piece(&rt, rt.alloc(), words)?;
-        assert_eq!(&rt; status, Status::WriteFault, "{words}");
-        assert!(&rt; matches!(left, Left::Nothing), "{words}");
-        assert_eq!(&rt; calls, 2, "{words}");
+fn a_drawing_calls_no_source(rt: HostRuntime) -> Result<(), Fail> {
+    // Its report has the lines of the test, of ten intervals, of each object and of the totals.
+    let whole = answer(&rt, rt.alloc(), &Case::new("gen 0", SHARED), &NoGate)?;
+    assert_eq!(&rt; whole.status, Status::Done);
+    assert_eq!(&rt; whole.reads, 0);
+    for write_fails in 1..=whole.writes {
+        let case = Case {
+            write_fails,
+            ..Case::new("gen 0", SHARED)
+        };
+        let ending = answer(&rt, rt.alloc(), &case, &NoGate)?;
+        assert_eq!(&rt; ending.status, Status::WriteFault);
+        assert_eq!(&rt; (ending.reads, ending.writes), (0, write_fails));
+        assert!(&rt; whole.taken.as_slice().starts_with(ending.taken.as_slice()));
+        assert!(&rt; matches!(&ending.left, Left::Nothing));
     }
     Ok(())
 }
@@ -427,10 +406,11 @@ impl Read for Long {
 #[test]
 fn leaves_the_rest_of_a_large_input(rt: HostRuntime) -> Result<(), Fail> {
     let mut source = InSource::new(Long { left: 1_048_580 });
-    let mut sink = OutSink::new(OnePiece { calls: 0 });
+    let mut sink = OutSink::new(Vec::new(rt.alloc()));
     let (status, _left) = call(&rt, rt.alloc(), "run 10", &mut source, &mut sink, &NoGate)?;
     assert_eq!(&rt; status, Status::TooLarge);
     assert_eq!(&rt; source.into_inner().left, 3);
+    assert_eq!(&rt; sink.into_inner().as_slice(), b"too large\n".as_slice());
     Ok(())
 }
 
@@ -449,11 +429,7 @@ fn left_object(
     case: &Case,
     object: u32,
 ) -> Result<LeftObject, Fail> {
-    let Ending {
-        status,
-        taken: _taken,
-        left,
-    } = answer(rt, alloc, case, &NoGate)?;
+    let Ending { status, left, .. } = answer(rt, alloc, case, &NoGate)?;
     let Left::Bank { bank } = left else {
         return Err("no bank".into());
     };

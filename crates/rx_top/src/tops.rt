@@ -1,39 +1,28 @@
 //! The top call.
-ghost use Rattle.std.specs.Prelude.{◌≡◌, ◌≢◌, ◌<◌, ◌≤◌, ◌^◌, [], map, string_bytes, Some, IfOk};
-ghost use Rattle.rx_set.specs.Valid.{IsValid};
-ghost use Rattle.rx_set.specs.declared.policies.Policy.TheVariants.{Edf};
-ghost use Rattle.rx_file.specs.declared.faults.FileFault.TheVariants.{NoMemory as OutOfMemory};
-ghost use Rattle.rx_port.specs.Seats.{no_counts};
-ghost use Rattle.rx_tick.specs.Banks.{IsBankOf};
-ghost use Rattle.rx_tick.specs.Executive.{moment};
+ghost use Rattle.std.specs.Prelude.{◌≡◌, ◌≢◌, map, string_bytes};
 ghost use Rattle.std.specs.Option.{ForSome};
+ghost use Rattle.rx_io.specs.Ends.{MayBeCalled};
+ghost use Rattle.rx_file.specs.declared.faults.FileFault.TheVariants.{NoMemory as OutOfMemory};
 ghost use Rattle.rx_top.specs.declared.left.Left.TheVariants.{Nothing};
 ghost use Rattle.rx_top.specs.Words.{command_of, IsLimited};
-ghost use Rattle.rx_top.specs.Outcome.{Outcome, Headline, WritesAnswer, WritesOneAnswer, Admission, Sharing, Drawing, ends, admit_answer, draw_answer, edf_status, input_answer, lanes_answer, large_answer, fault_answer, fault_status, run_answer, set_answer};
+ghost use Rattle.rx_top.specs.Outcome.{Admission, Drawing, Ending, Headline, IsLast, Outcome, Sharing, WritesAnswer, WritesOneAnswer, ends, fault_answer, input_answer, set_answer};
 ghost use Rattle.rx_top.specs.Determined.{Determined, Unread};
 
-use crate::admits::{write_admission, write_spans};
-use crate::draws::{note_run, write_drawn};
-use crate::lanes::write_lanes;
+use crate::admits::admit_set;
+use crate::draws::draw;
+use crate::lanes::share_set;
 use crate::left::Left;
-use crate::runs::{Ended, write_run};
-use crate::status::Status;
+use crate::runs::run_set;
+use crate::stops::Stop;
 use crate::words::{Command, Query, command_of};
-use arrayvec::ArrayVec;
-use rx_edf::EdfVerdict;
 use rx_edf::laws::verdicts_are_exact;
 use rx_file::{FileFault, read_set};
-use rx_fixed::Verdict;
-use rx_io::{Failed, ReadError, Sink, Source, put, read_all};
-use rx_lanes::{Gate, Run, run_lanes};
-use rx_port::Bank;
+use rx_io::{Sink, Source, Status, put, read_all};
+use rx_lanes::Gate;
 use rx_report::laws::lines_tell_their_calls;
 use rx_report::{Line, fault_line};
-use rx_seq::NoMemory;
+use rx_set::TaskSet;
 use rx_set::laws::{drawn_sets_are_valid, least_times_serve};
-use rx_set::{Policy, TaskSet, generate};
-use rx_shape::Layout;
-use rx_tick::Executive;
 use rx_tick::charges::retries_are_bounded;
 use rx_tick::laws::entries_follow_the_bodies;
 use rx_tick::windows::{fitting_spans_miss_nothing, served_sets_miss_nothing};
@@ -79,15 +68,15 @@ const DRAWN_TICKS: u64 = 100_000;
 /// seat has the entries of its tasks. In every other case it is `Nothing`, whatever it was before.
 ///
 /// Where the status is another than `ReadFault`, `WriteFault` and `NoMemory`, neither the source nor the sink failed,
-/// and an input that is read and not too large is read to its end. Lines are handed to the sink one at a time, and the
-/// rest of a line again where the sink took less. After a failure no further call of either is made; no clause says so,
-/// but the conditions of `read` and `write` leave no room for one, and tests show it. It takes memory for the input and
+/// and an input that is read and not too large is read to its end. Each call of the source asks for 4,096 bytes, or for
+/// as many as are left up to the limit. Each line is handed to the sink in a call of its own, and all that the sink left
+/// of it in another. A call that fails is the last one of its source or sink. It takes memory for the input and
 /// its document, for each word of the bank or of the table, for a machine a task or a lane, and for `lanes` 16 bytes
 /// and two entries for each operation, all of it before the first write, and none for words of no shape; `gen` takes
 /// memory for its events instead of the input. The time is that of reading the file and of the test, and for each slot
 /// that of `Executive::tick` and of its lines; for `lanes` that of `run_lanes`, and for each operation that of
 /// `rx_report::entry_line`.
-/// Wants a count of faults below 2^63 of the source and of the sink.
+/// Wants a source and a sink whose latest calls did not fail, each with a count of faults below 2^63.
 pub fn top<R: Threads + Sync, S: Source, K: Sink, G: Gate + Sync>(
     rt: &R,
     alloc: Global,
@@ -97,48 +86,37 @@ pub fn top<R: Threads + Sync, S: Source, K: Sink, G: Gate + Sync>(
     gate: &G,
     left: &mut Left,
 ) -> Status
-    requires source { S.faults source.old < 2 ^ 63 }
-    requires sink { K.faults sink.old < 2 ^ 63 }
+    requires source { MayBeCalled (S.tells source.old).failures }
+    requires sink { MayBeCalled (K.tells sink.old).failures }
 
     // Each status has its cause, with all that was read and written, and what is left.
     ensures outcome { Outcome (command_of (map string_bytes words.now))
-        (ends (S.left source.old) (S.faults source.old) (K.taken sink.old) (K.faults sink.old))
-        (ends (S.left source.new) (S.faults source.new) (K.taken sink.new) (K.faults sink.new))
-        left.new result }
+        (ends (S.tells source.old) (K.tells sink.old)) (ends (S.tells source.new) (K.tells sink.new)) left.new result }
+
+    // A call of the source or the sink that failed is the last one of it.
+    ensures last { IsLast (ends (S.tells source.new) (K.tells sink.new)) result }
 
     // A command that reads gives the one answer to its input, and lanes one of theirs; a drawing and words of no shape have theirs.
     ensures determined { Determined (command_of (map string_bytes words.now))
-        (ends (S.left source.old) (S.faults source.old) (K.taken sink.old) (K.faults sink.old))
-        (ends (S.left source.new) (S.faults source.new) (K.taken sink.new) (K.faults sink.new))
-        left.new result }
+        (ends (S.tells source.old) (K.tells sink.old)) (ends (S.tells source.new) (K.tells sink.new)) left.new result }
     ensures unread { Unread (command_of (map string_bytes words.now))
-        (ends (S.left source.old) (S.faults source.old) (K.taken sink.old) (K.faults sink.old))
-        (ends (S.left source.new) (S.faults source.new) (K.taken sink.new) (K.faults sink.new))
-        left.new result }
+        (ends (S.tells source.old) (K.tells sink.old)) (ends (S.tells source.new) (K.tells sink.new)) left.new result }
 
     // Given memory and no fault, `run` on a set writes the report of its schedule, and leaves its bank;
     ensures headline { Headline (command_of (map string_bytes words.now))
-        (ends (S.left source.old) (S.faults source.old) (K.taken sink.old) (K.faults sink.old))
-        (ends (S.left source.new) (S.faults source.new) (K.taken sink.new) (K.faults sink.new))
-        left.new result }
+        (ends (S.tells source.old) (K.tells sink.old)) (ends (S.tells source.new) (K.tells sink.new)) left.new result }
 
     // `admit` on a set writes what the test of its policy says, and its status is that verdict;
     ensures admission { Admission (command_of (map string_bytes words.now))
-        (ends (S.left source.old) (S.faults source.old) (K.taken sink.old) (K.faults sink.old))
-        (ends (S.left source.new) (S.faults source.new) (K.taken sink.new) (K.faults sink.new))
-        left.new result }
+        (ends (S.tells source.old) (K.tells sink.old)) (ends (S.tells source.new) (K.tells sink.new)) left.new result }
 
     // `lanes` on a set writes one legal history of its operations, whatever the threads did, and leaves the table that has it;
     ensures sharing { Sharing (command_of (map string_bytes words.now))
-        (ends (S.left source.old) (S.faults source.old) (K.taken sink.old) (K.faults sink.old))
-        (ends (S.left source.new) (S.faults source.new) (K.taken sink.new) (K.faults sink.new))
-        left.new result }
+        (ends (S.tells source.old) (K.tells sink.old)) (ends (S.tells source.new) (K.tells sink.new)) left.new result }
 
     // and `gen` writes the report of the set of its number, and leaves the bank of its run.
     ensures drawing { Drawing (command_of (map string_bytes words.now))
-        (ends (S.left source.old) (S.faults source.old) (K.taken sink.old) (K.faults sink.old))
-        (ends (S.left source.new) (S.faults source.new) (K.taken sink.new) (K.faults sink.new))
-        left.new result }
+        (ends (S.tells source.old) (K.tells sink.old)) (ends (S.tells source.new) (K.tells sink.new)) left.new result }
 {
     least_times_serve();
     verdicts_are_exact();
@@ -149,7 +127,10 @@ pub fn top<R: Threads + Sync, S: Source, K: Sink, G: Gate + Sync>(
     fitting_spans_miss_nothing();
     lines_tell_their_calls();
     *left = Left::Nothing;
-    answer_words(rt, alloc, command_of(words), source, sink, gate, left)
+    match answer_words(rt, alloc, command_of(words), source, sink, gate, left) {
+        Ok(status) => status,
+        Err(stop) => stop.status(),
+    }
 }
 
 /// Answers the command, or says that there is none.
@@ -161,73 +142,24 @@ fn answer_words<R: Threads + Sync, S: Source, K: Sink, G: Gate + Sync>(
     sink: &mut K,
     gate: &G,
     left: &mut Left,
-) -> Status
-    requires source { S.faults source.old < 2 ^ 63 }
-    requires sink { K.faults sink.old < 2 ^ 63 }
+) -> Result<Status, Stop>
+    requires source { MayBeCalled (S.tells source.old).failures }
+    requires sink { MayBeCalled (K.tells sink.old).failures }
     requires limits { ForSome command IsLimited }
     requires nothing { left.old ≡ Nothing }
-    ensures { Outcome command
-        (ends (S.left source.old) (S.faults source.old) (K.taken sink.old) (K.faults sink.old))
-        (ends (S.left source.new) (S.faults source.new) (K.taken sink.new) (K.faults sink.new))
-        left.new result }
+    ensures { Ending command
+        (ends (S.tells source.old) (K.tells sink.old)) (ends (S.tells source.new) (K.tells sink.new)) left.new result }
 {
+    let Some(command) = command else {
+        put(sink, b"words\n")?;
+        return Ok(Status::Words);
+    };
     match command {
-        Some(command) => answer_command(rt, alloc, command, source, sink, gate, left),
-        None => match put(sink, b"words\n") {
-            Ok(()) => Status::Words,
-            Err(Failed) => Status::WriteFault,
-        },
-    }
-}
-
-/// Answers a command.
-fn answer_command<R: Threads + Sync, S: Source, K: Sink, G: Gate + Sync>(
-    rt: &R,
-    alloc: Global,
-    command: Command,
-    source: &mut S,
-    sink: &mut K,
-    gate: &G,
-    left: &mut Left,
-) -> Status
-    requires source { S.faults source.old < 2 ^ 63 }
-    requires sink { K.faults sink.old < 2 ^ 63 }
-    requires limits { IsLimited command }
-    requires nothing { left.old ≡ Nothing }
-    ensures { Outcome (Some command)
-        (ends (S.left source.old) (S.faults source.old) (K.taken sink.old) (K.faults sink.old))
-        (ends (S.left source.new) (S.faults source.new) (K.taken sink.new) (K.faults sink.new))
-        left.new result }
-{
-    match command {
-        Command::Ask { query } => answer_query(rt, alloc, query, source, sink, gate, left),
+        Command::Ask { query } => {
+            let input = read_all(alloc, source, MOST_INPUT)?;
+            answer_input(rt, alloc, query, input.as_slice(), sink, gate, left)
+        }
         Command::Draw { number } => draw(alloc, number, DRAWN_TICKS, sink, left),
-    }
-}
-
-/// Reads the input, and answers a query.
-fn answer_query<R: Threads + Sync, S: Source, K: Sink, G: Gate + Sync>(
-    rt: &R,
-    alloc: Global,
-    query: Query,
-    source: &mut S,
-    sink: &mut K,
-    gate: &G,
-    left: &mut Left,
-) -> Status
-    requires source { S.faults source.old < 2 ^ 63 }
-    requires sink { K.faults sink.old < 2 ^ 63 }
-    requires limits { IsLimited (Command.Ask query) }
-    requires nothing { left.old ≡ Nothing }
-    ensures { Outcome (Some (Command.Ask query))
-        (ends (S.left source.old) (S.faults source.old) (K.taken sink.old) (K.faults sink.old))
-        (ends (S.left source.new) (S.faults source.new) (K.taken sink.new) (K.faults sink.new))
-        left.new result }
-{
-    match read_all(alloc, source, MOST_INPUT) {
-        Ok(input) => answer_input(rt, alloc, query, input.as_slice(), sink, gate, left),
-        Err(ReadError::Fault) => Status::ReadFault,
-        Err(ReadError::Memory) => Status::NoMemory,
     }
 }
 
@@ -240,19 +172,20 @@ fn answer_input<R: Threads + Sync, K: Sink, G: Gate + Sync>(
     sink: &mut K,
     gate: &G,
     left: &mut Left,
-) -> Status
-    requires sink { K.faults sink.old < 2 ^ 63 }
+) -> Result<Status, Stop>
+    requires up { MayBeCalled (K.tells sink.old).failures }
     requires limits { IsLimited (Command.Ask query) }
     requires nothing { left.old ≡ Nothing }
     ensures { WritesOneAnswer (λ history. input_answer (set_answer query history) input.now)
-        (K.taken sink.old) (K.taken sink.new) (K.faults sink.old) (K.faults sink.new) left.new result }
+        (K.tells sink.old) (K.tells sink.new) left.new result }
 {
     if input.len() > MOST_INPUT {
-        return refuse_size(sink);
+        put(sink, b"too large\n")?;
+        return Ok(Status::TooLarge);
     }
     match read_set(alloc, input) {
         Ok(set) => answer_set(rt, alloc, query, &set, sink, gate, left),
-        Err(FileFault::NoMemory) => Status::NoMemory,
+        Err(FileFault::NoMemory) => Err(Stop::Memory),
         Err(fault) => refuse_fault(&fault, sink),
     }
 }
@@ -266,12 +199,12 @@ fn answer_set<R: Threads + Sync, K: Sink, G: Gate + Sync>(
     sink: &mut K,
     gate: &G,
     left: &mut Left,
-) -> Status
-    requires sink { K.faults sink.old < 2 ^ 63 }
+) -> Result<Status, Stop>
+    requires up { MayBeCalled (K.tells sink.old).failures }
     requires limits { IsLimited (Command.Ask query) }
     requires nothing { left.old ≡ Nothing }
     ensures { WritesOneAnswer (λ history. set_answer query history set.now)
-        (K.taken sink.old) (K.taken sink.new) (K.faults sink.old) (K.faults sink.new) left.new result }
+        (K.tells sink.old) (K.tells sink.new) left.new result }
 {
     // That the set is valid.
     let _tasks = set.tasks();
@@ -284,210 +217,17 @@ fn answer_set<R: Threads + Sync, K: Sink, G: Gate + Sync>(
     }
 }
 
-/// Says that the input has too many bytes.
-fn refuse_size<K: Sink>(sink: &mut K) -> Status
-    requires { K.faults sink.old < 2 ^ 63 }
-    ensures { WritesAnswer large_answer
-        (K.taken sink.old) (K.taken sink.new) (K.faults sink.old) (K.faults sink.new) Nothing result }
-{
-    match put(sink, b"too large\n") {
-        Ok(()) => Status::TooLarge,
-        Err(Failed) => Status::WriteFault,
-    }
-}
-
-/// The status of a fault of the input.
-fn fault_status(fault: &FileFault) -> Status
-    ensures { result ≡ fault_status fault.now }
-{
-    match fault {
-        FileFault::NotToml => Status::NotToml,
-        _ => Status::BadSet,
-    }
-}
-
 /// Writes the first fault of the input.
-fn refuse_fault<K: Sink>(fault: &FileFault, sink: &mut K) -> Status
-    requires faults { K.faults sink.old < 2 ^ 63 }
+fn refuse_fault<K: Sink>(fault: &FileFault, sink: &mut K) -> Result<Status, Stop>
+    requires up { MayBeCalled (K.tells sink.old).failures }
     requires fault { fault.now ≢ OutOfMemory }
-    ensures { WritesAnswer (fault_answer fault.now)
-        (K.taken sink.old) (K.taken sink.new) (K.faults sink.old) (K.faults sink.new) Nothing result }
+    ensures { WritesAnswer (fault_answer fault.now) (K.tells sink.old) (K.tells sink.new) Nothing result }
 {
     let mut line = Line::new();
     fault_line(fault, &mut line);
-    match put(sink, line.as_slice()) {
-        Ok(()) => fault_status(fault),
-        Err(Failed) => Status::WriteFault,
-    }
-}
-
-/// The bank of a set before its first slot: its objects with the tag 0, and a seat for each task.
-fn new_bank(alloc: Global, set: &TaskSet) -> Result<Bank, NoMemory>
-    ensures bank { IfOk result (IsBankOf set.now []) }
-    ensures counts { IfOk result (λ bank. bank.core.counts ≡ Some no_counts) }
-{
-    let mut parts = ArrayVec::new();
-    set.parts(&mut parts);
-    let layout = Layout::new(alloc, parts.as_slice(), set.tasks().len() as u32, 0)?;
-    Bank::new(alloc, layout)
-}
-
-/// The executive of a set before its first slot.
-pub(crate) fn new_executive<'s>(alloc: Global, set: &'s TaskSet) -> Result<Executive<'s>, NoMemory>
-    ensures start { IfOk result (λ executive. executive ≡ moment set.now 0 executive.bank) }
-    ensures counts { IfOk result (λ executive. executive.bank.core.counts ≡ Some no_counts) }
-{
-    let bank = new_bank(alloc, set)?;
-    Executive::new(alloc, set, bank)
-}
-
-/// Runs a set.
-fn run_set<K: Sink>(
-    alloc: Global,
-    ticks: u64,
-    set: &TaskSet,
-    sink: &mut K,
-    left: &mut Left,
-) -> Status
-    requires valid { IsValid set.now }
-    requires sink { K.faults sink.old < 2 ^ 63 }
-    requires limits { ticks ≤ 1000000 }
-    requires nothing { left.old ≡ Nothing }
-    ensures { WritesAnswer (run_answer ticks set.now)
-        (K.taken sink.old) (K.taken sink.new) (K.faults sink.old) (K.faults sink.new) left.new result }
-{
-    let executive = match new_executive(alloc, set) {
-        Ok(executive) => executive,
-        Err(_) => return Status::NoMemory,
-    };
-    match write_run(set, executive, ticks, sink) {
-        Ok(Ended { missed, bank }) => {
-            *left = Left::Bank { bank };
-            if missed == 0 {
-                Status::Done
-            } else {
-                Status::Adverse
-            }
-        }
-        Err(Failed) => Status::WriteFault,
-    }
-}
-
-/// Has lanes make the operations of a set, and tells what they made.
-fn share_set<R: Threads + Sync, K: Sink, G: Gate + Sync>(
-    rt: &R,
-    alloc: Global,
-    workers: u32,
-    jobs: u32,
-    set: &TaskSet,
-    sink: &mut K,
-    gate: &G,
-    left: &mut Left,
-) -> Status
-    requires valid { IsValid set.now }
-    requires sink { K.faults sink.old < 2 ^ 63 }
-    requires limits { ((1 ≤ workers) × (workers ≤ 16)) × ((1 ≤ jobs) × (jobs ≤ 200)) }
-    requires nothing { left.old ≡ Nothing }
-    ensures { WritesOneAnswer (λ history. lanes_answer workers jobs history set.now)
-        (K.taken sink.old) (K.taken sink.new) (K.faults sink.old) (K.faults sink.new) left.new result }
-{
-    let Run {
-        lists: _,
-        merged,
-        closed,
-    } = match run_lanes(rt, alloc, set, workers, jobs, gate) {
-        Ok(run) => run,
-        Err(_) => return Status::NoMemory,
-    };
-    match write_lanes(set, workers, jobs, merged.as_slice(), &closed, sink) {
-        Ok(()) => {
-            *left = Left::Closed { closed };
-            Status::Done
-        }
-        Err(Failed) => Status::WriteFault,
-    }
-}
-
-/// Writes what the admission test says of a set.
-fn admit_set<K: Sink>(set: &TaskSet, sink: &mut K) -> Status
-    requires valid { IsValid set.now }
-    requires faults { K.faults sink.old < 2 ^ 63 }
-    ensures { WritesAnswer (admit_answer set.now)
-        (K.taken sink.old) (K.taken sink.new) (K.faults sink.old) (K.faults sink.new) Nothing result }
-{
-    match set.policy() {
-        Policy::Rm | Policy::Dm => admit_ranks(set, sink),
-        Policy::Edf => admit_spans(set, sink),
-    }
-}
-
-/// Writes what the test for fixed priorities says of a set.
-fn admit_ranks<K: Sink>(set: &TaskSet, sink: &mut K) -> Status
-    requires valid { IsValid set.now }
-    requires faults { K.faults sink.old < 2 ^ 63 }
-    requires policy { set.now.policy ≢ Edf }
-    ensures { WritesAnswer (admit_answer set.now)
-        (K.taken sink.old) (K.taken sink.new) (K.faults sink.old) (K.faults sink.new) Nothing result }
-{
-    match write_admission(set, sink) {
-        Ok(Verdict::Yes) => Status::Done,
-        Ok(Verdict::No { .. }) => Status::Adverse,
-        Err(Failed) => Status::WriteFault,
-    }
-}
-
-/// The status of a verdict of the test for earliest deadlines first.
-fn edf_status(verdict: EdfVerdict) -> Status
-    ensures { result ≡ edf_status verdict }
-{
-    match verdict {
-        EdfVerdict::Yes => Status::Done,
-        EdfVerdict::No { .. } => Status::Adverse,
-        EdfVerdict::Wide => Status::Wide,
-        EdfVerdict::Long { .. } => Status::Long,
-    }
-}
-
-/// Writes what the test for earliest deadlines first says of a set.
-fn admit_spans<K: Sink>(set: &TaskSet, sink: &mut K) -> Status
-    requires valid { IsValid set.now }
-    requires faults { K.faults sink.old < 2 ^ 63 }
-    requires policy { set.now.policy ≡ Edf }
-    ensures { WritesAnswer (admit_answer set.now)
-        (K.taken sink.old) (K.taken sink.new) (K.faults sink.old) (K.faults sink.new) Nothing result }
-{
-    let mut line = Line::new();
-    match write_spans(set, &mut line, sink) {
-        Ok(verdict) => edf_status(verdict),
-        Err(Failed) => Status::WriteFault,
-    }
-}
-
-/// Draws the set of a number, runs it for so many slots, and tells the intervals of its schedule.
-fn draw<K: Sink>(alloc: Global, number: u64, ticks: u64, sink: &mut K, left: &mut Left) -> Status
-    requires sink { K.faults sink.old < 2 ^ 63 }
-    requires limits { ticks ≤ 1000000 }
-    requires nothing { left.old ≡ Nothing }
-    ensures { WritesAnswer (draw_answer ticks number)
-        (K.taken sink.old) (K.taken sink.new) (K.faults sink.old) (K.faults sink.new) left.new result }
-{
-    let set = match generate(alloc, number) {
-        Ok(set) => set,
-        Err(_) => return Status::NoMemory,
-    };
-    let executive = match new_executive(alloc, &set) {
-        Ok(executive) => executive,
-        Err(_) => return Status::NoMemory,
-    };
-    let run = match note_run(alloc, &set, executive, ticks) {
-        Ok(run) => run,
-        Err(_) => return Status::NoMemory,
-    };
-    match write_drawn(&set, &run, sink) {
-        Ok(()) => {
-            *left = Left::Bank { bank: run.bank };
-            Status::Done
-        }
-        Err(Failed) => Status::WriteFault,
-    }
+    put(sink, line.as_slice())?;
+    Ok(match fault {
+        FileFault::NotToml => Status::NotToml,
+        _ => Status::BadSet,
+    })
 }

@@ -2,20 +2,17 @@
 ghost use Rattle.rx_file.specs.Texts.{number_of};
 ghost use Rattle.std.specs.Prelude.{◌≡◌, ◌≤◌, map, string_bytes, IfSome};
 ghost use Rattle.std.specs.Option.{ForSome};
-ghost use Rattle.rx_top.specs.Words.{IsLimited, command_of, draw_of, from_one_to, lanes_of, one_word, run_of, three_words, two_words};
+ghost use Rattle.rx_top.specs.Words.{IsLimited, command_of, draw_of, from_one_to, lanes_of, number_up_to, one_word, run_of, three_words, two_words};
 
 use rx_file::number_of;
 
 // The most slots of a run.
-const MOST_TICKS: u128 = 1_000_000;
+const MOST_TICKS: u64 = 1_000_000;
 
 // The most lanes, and the most jobs of each task that they make.
 const MOST_LANES: u32 = 16;
 
 const MOST_JOBS: u32 = 200;
-
-// The most that the number of a drawn set can be.
-const MOST_NUMBER: u128 = 18_446_744_073_709_551_615;
 
 /// What is asked of the set of the input.
 #[derive(Clone, Copy, Debug, PartialEq, Eq)]
@@ -37,41 +34,16 @@ pub enum Command {
     Draw { number: u64 },
 }
 
-/// The command `run` with this number word.
-fn run_of(number: &[u8]) -> Option<Command>
-    ensures value { result ≡ run_of number.now }
-    ensures limits { ForSome result IsLimited }
+/// The number of a number word, if it is at most so much.
+fn number_up_to(most: u64, number: &[u8]) -> Option<u64>
+    ensures value { result ≡ number_up_to most (number_of 20 number.now) }
+    ensures limit { IfSome result (λ n. n ≤ most) }
 {
-    match number_of(number, 20) {
-        Some(ticks) => {
-            if ticks <= MOST_TICKS {
-                let ticks = ticks as u64;
-                Some(Command::Ask {
-                    query: Query::Run { ticks },
-                })
-            } else {
-                None
-            }
-        }
-        None => None,
-    }
-}
-
-/// The command `gen` with this number word.
-fn draw_of(number: &[u8]) -> Option<Command>
-    ensures value { result ≡ draw_of number.now }
-    ensures limits { ForSome result IsLimited }
-{
-    match number_of(number, 20) {
-        Some(number) => {
-            if number <= MOST_NUMBER {
-                let number = number as u64;
-                Some(Command::Draw { number })
-            } else {
-                None
-            }
-        }
-        None => None,
+    let number = number_of(number, 20)?;
+    if number <= u128::from(most) {
+        Some(number as u64)
+    } else {
+        None
     }
 }
 
@@ -80,16 +52,32 @@ fn from_one_to(most: u32, number: &[u8]) -> Option<u32>
     ensures value { result ≡ from_one_to most (number_of 20 number.now) }
     ensures limits { IfSome result (λ n. (1 ≤ n) × (n ≤ most)) }
 {
-    match number_of(number, 20) {
-        Some(number) => {
-            if number >= 1 && number <= u128::from(most) {
-                Some(number as u32)
-            } else {
-                None
-            }
-        }
-        None => None,
+    let number = number_up_to(u64::from(most), number)?;
+    if number >= 1 {
+        Some(number as u32)
+    } else {
+        None
     }
+}
+
+/// The command `run` with this number word.
+fn run_of(number: &[u8]) -> Option<Command>
+    ensures value { result ≡ run_of number.now }
+    ensures limits { ForSome result IsLimited }
+{
+    let ticks = number_up_to(MOST_TICKS, number)?;
+    Some(Command::Ask {
+        query: Query::Run { ticks },
+    })
+}
+
+/// The command `gen` with this number word.
+fn draw_of(number: &[u8]) -> Option<Command>
+    ensures value { result ≡ draw_of number.now }
+    ensures limits { ForSome result IsLimited }
+{
+    let number = number_up_to(u64::MAX, number)?;
+    Some(Command::Draw { number })
 }
 
 /// The command `lanes` with these number words.
@@ -97,15 +85,11 @@ fn lanes_of(workers: &[u8], jobs: &[u8]) -> Option<Command>
     ensures value { result ≡ lanes_of workers.now jobs.now }
     ensures limits { ForSome result IsLimited }
 {
-    match (
-        from_one_to(MOST_LANES, workers),
-        from_one_to(MOST_JOBS, jobs),
-    ) {
-        (Some(workers), Some(jobs)) => Some(Command::Ask {
-            query: Query::Lanes { workers, jobs },
-        }),
-        _ => None,
-    }
+    let workers = from_one_to(MOST_LANES, workers)?;
+    let jobs = from_one_to(MOST_JOBS, jobs)?;
+    Some(Command::Ask {
+        query: Query::Lanes { workers, jobs },
+    })
 }
 
 /// The command of one word.

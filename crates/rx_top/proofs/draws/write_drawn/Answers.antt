@@ -1,10 +1,9 @@
 use Rattle.std.proofs.Common.{refl}
-use Rattle.rx_io.proofs.Puts.{puts_after}
-use Rattle.rx_top.proofs.Writes.{puts_first_cut}
+use Rattle.rx_io.proofs.Puts.{puts_after, puts_cut_first}
 use Rattle.rx_top.proofs.draws.write_drawn.Goals as goal
 
-pub returns-in-Err : goal.returns-in-Err
-returns-in-Err g c = λ ticks run. puts_first_cut _ _ _ _ _ _ _ _ c.in-Err.ensures refl
+pub returns-in_err-put_test : goal.returns-in_err-put_test
+returns-in_err-put_test g c = λ ticks run. puts_cut_first _ _ _ _ _ _ c.from_residual.ensures.0 c.in_err-put_test.ensures refl
 
 pub returns : goal.returns
-returns g c = λ ticks run. puts_after _ _ _ _ _ _ _ _ _ c.in-Ok.ensures.whole c.in-Ok.ensures.cause.kept (c.write_noted.ensures ticks run)
+returns g c = λ ticks run. puts_after _ _ _ _ _ _ c.in_ok-put_test.ensures (c.write_noted.ensures ticks run)

@@ -1,19 +1,17 @@
 use Rattle.std.proofs.Common.{refl}
-use Rattle.rx_io.proofs.Puts.{puts_after}
-use Rattle.rx_tick.specs.Schedule.{slots}
-use Rattle.rx_top.proofs.Writes.{puts_first_cut, puts_cut}
+use Rattle.rx_io.proofs.Puts.{puts_after, puts_cut, puts_cut_first}
+use Rattle.rx_tick.specs.Schedule.{history, slots}
 use Rattle.rx_top.proofs.draws.write_noted.Goals as goal
 
-pub returns-in-Err : goal.returns-in-Err
-returns-in-Err g c = λ ticks run. puts_first_cut _ _ _ _ _ _ _ _ (rw run.events_are at c.in-Err.ensures) refl
+pub returns-in_err-put_windows : goal.returns-in_err-put_windows
+returns-in_err-put_windows g c = λ ticks run. puts_cut_first _ _ _ _ _ _ c.from_residual.ensures.0 (rw run.events_are at c.in_err-put_windows.ensures) refl
 
-pub returns-in-Ok-put_objects : goal.returns-in-Ok-put_objects
-returns-in-Ok-put_objects g c = λ ticks run.
-    let objects = c.in-Ok-put_objects.ensures (slots c.args.set.now ticks) run.stands in
-    puts_after _ _ _ _ _ _ _ _ _ (rw run.events_are at c.in-Ok.ensures.whole) c.in-Ok.ensures.cause.kept
-    (puts_after _ _ _ _ _ _ _ _ _ objects.whole objects.cause.kept (rw run.totals_are at c.put_totals.ensures))
+pub returns-in_err-put_objects : goal.returns-in_err-put_objects
+returns-in_err-put_objects g c = λ ticks run.
+    puts_cut _ _ _ _ _ _ _ _ c.from_residual-in_err-put_objects.ensures.0 (rw run.events_are at c.in_ok-put_windows.ensures)
+    (c.in_err-put_objects.ensures (history (slots c.args.set.now ticks)) (run.stands.lawful, run.stands.first)) refl
 
-pub returns-in-Err-put_objects : goal.returns-in-Err-put_objects
-returns-in-Err-put_objects g c = λ ticks run.
-    puts_cut _ _ _ _ _ _ _ _ _ _ _ (rw run.events_are at c.in-Ok.ensures.whole) c.in-Ok.ensures.cause.kept
-    (c.in-Err-put_objects.ensures (slots c.args.set.now ticks) run.stands) refl
+pub returns : goal.returns
+returns g c = λ ticks run.
+    let objects = c.in_ok-put_objects.ensures (history (slots c.args.set.now ticks)) (run.stands.lawful, run.stands.first) in
+    puts_after _ _ _ _ _ _ (rw run.events_are at c.in_ok-put_windows.ensures) (puts_after _ _ _ _ _ _ objects (rw run.totals_are at c.put_totals.ensures))

@@ -1,22 +1,17 @@
-use Rattle.std.proofs.Common.{◌∙◌, sym, subst, arith}
-use Rattle.std.proofs.KnownBytes.{Appends-trans}
-use Rattle.std.specs.Io.KnownBytes.{Appends}
+use Rattle.std.proofs.Common.{arith}
 use Rattle.rx_report.specs.LaneLines.{entry_line}
-use Rattle.rx_top.proofs.Lines.{text_around, text_next}
-use Rattle.rx_top.proofs.Writes.{puts_cut}
+use Rattle.rx_io.proofs.Puts.{puts_cut, takes_next}
+use Rattle.rx_top.proofs.Lines.{line_around, line_next}
 use Rattle.rx_top.proofs.lanes.put_entries.Goals as goal
 
-pub returns-in-Err : goal.returns-in-Err
-returns-in-Err g c =
-    puts_cut _ _ _ _ _ _ _ _ _ _ _ c.loop-entry.invariant.taken c.loop-entry.invariant.faults
-    (rw (c.as_slice.ensures.value, c.entry_line.ensures) at c.in-Err.ensures)
-    (text_around (entry_line c.args.set.now) c.args.entries.now c.loop-entry.entry-index _ (omega arith))
+pub returns-in_err-put : goal.returns-in_err-put
+returns-in_err-put g c =
+    puts_cut _ _ _ _ _ _ _ _ c.from_residual.ensures.0 c.loop-entry.invariant.taken
+    (rw (c.as_slice.ensures.value, c.entry_line.ensures) at c.in_err-put.ensures)
+    (line_around (entry_line c.args.set.now) c.args.entries.now c.loop-entry.entry-index _ (omega arith))
 
 pub loop-entry-preserved : goal.loop-entry-preserved
-loop-entry-preserved g c =
-    let put = rw (c.as_slice.ensures.value, c.entry_line.ensures) at c.in-Ok.ensures in record {
-      taken =
-          subst (Appends (g.K.Sink.taken c.args.sink.now) (g.K.Sink.taken c.put.new.sink)) (sym (text_next (entry_line c.args.set.now) c.args.entries.now c.loop-entry.entry-index _ (omega arith)))
-          (Appends-trans _ _ _ _ _ c.loop-entry.invariant.taken put.whole);
-      faults = put.cause.kept ∙ c.loop-entry.invariant.faults;
-    }
+loop-entry-preserved g c = record {
+  taken = takes_next _ _ _ _ _ _ c.loop-entry.invariant.taken (rw (c.as_slice.ensures.value, c.entry_line.ensures) at c.in_ok-put.ensures)
+      (line_next (entry_line c.args.set.now) c.args.entries.now c.loop-entry.entry-index _ (omega arith));
+}

@@ -1,12 +1,12 @@
 use Rattle.rx_top.proofs.Sharing.{history_parts}
-use Rattle.rx_top.proofs.Writes.{puts_first_cut, puts_same}
-use Rattle.rx_io.proofs.Puts.{puts_after}
+use Rattle.rx_io.proofs.Puts.{puts_after, puts_cut_first, puts_same}
 use Rattle.rx_top.proofs.lanes.put_history.Goals as goal
 
-pub returns-in-Ok : goal.returns-in-Ok
-returns-in-Ok g c =
-    puts_same _ _ _ _ _ _ _ (history_parts c.args.set.now c.args.entries.now c.args.closed.now.history c.requires.objects)
-    (puts_after _ _ _ _ _ _ _ _ _ c.in-Ok.ensures.whole c.in-Ok.ensures.cause.kept c.put_end.ensures)
+pub returns-in_err-put_entries : goal.returns-in_err-put_entries
+returns-in_err-put_entries g c =
+    puts_cut_first _ _ _ _ _ _ c.from_residual.ensures.0 c.in_err-put_entries.ensures (history_parts c.args.set.now c.args.entries.now c.args.closed.now.history c.requires.objects)
 
-pub returns-in-Err : goal.returns-in-Err
-returns-in-Err g c = puts_first_cut _ _ _ _ _ _ _ _ c.in-Err.ensures (history_parts c.args.set.now c.args.entries.now c.args.closed.now.history c.requires.objects)
+pub returns : goal.returns
+returns g c =
+    puts_same _ _ _ _ _ (history_parts c.args.set.now c.args.entries.now c.args.closed.now.history c.requires.objects)
+    (puts_after _ _ _ _ _ _ c.in_ok-put_entries.ensures c.put_end.ensures)

@@ -1,10 +1,9 @@
-use Rattle.std.proofs.Common.{refl}
-use Rattle.rx_io.proofs.Puts.{puts_after}
-use Rattle.rx_top.proofs.Writes.{puts_first_cut}
+use Rattle.std.proofs.Common.{◌∙◌, refl}
+use Rattle.rx_io.proofs.Puts.{puts_after, puts_cut_first}
 use Rattle.rx_top.proofs.lanes.write_lanes.Goals as goal
 
-pub returns-in-Ok : goal.returns-in-Ok
-returns-in-Ok g c = puts_after _ _ _ _ _ _ _ _ _ c.in-Ok.ensures.whole c.in-Ok.ensures.cause.kept c.put_history.ensures
+pub returns-in_err-put : goal.returns-in_err-put
+returns-in_err-put g c = puts_cut_first _ _ _ _ _ _ c.from_residual.ensures.0 (rw (c.as_slice.ensures.value ∙ c.lanes_line.ensures) at c.in_err-put.ensures) refl
 
-pub returns-in-Err : goal.returns-in-Err
-returns-in-Err g c = puts_first_cut _ _ _ _ _ _ _ _ c.in-Err.ensures refl
+pub returns : goal.returns
+returns g c = puts_after _ _ _ _ _ _ (rw (c.as_slice.ensures.value ∙ c.lanes_line.ensures) at c.in_ok-put.ensures) c.put_history.ensures

@@ -5,13 +5,13 @@ use Rattle.std.proofs.lemmas.Result.{on_ok_weaker}
 use Rattle.rx_ledger.specs.Counts.{with_slot}
 use Rattle.rx_top.proofs.Counting.{counts_next}
 use Rattle.rx_top.proofs.Lines.{no_lines}
-use Rattle.rx_top.proofs.Writes.{puts_nothing}
+use Rattle.rx_io.proofs.Puts.{takes_same_nothing}
 use Rattle.rx_top.proofs.runs.write_slot.Goals as goal
 
 pub returns-then-is_empty-clause-puts : goal.returns-then-is_empty-clause-puts
 returns-then-is_empty-clause-puts g c =
     let none : c.tick.new.out.events.items ≡ [] = nil_from_length _ (eqb-true _ 0 (sym c.is_empty.ensures ∙ c.if-is_empty.true)) in
-    puts_nothing _ _ _ _ (no_lines c.args.set.now c.args.executive.now.time _ (rw c.requires.system at c.tick.ensures.events) none)
+    takes_same_nothing _ _ (no_lines c.args.set.now c.args.executive.now.time _ (rw c.requires.system at c.tick.ensures.events) none)
 
 pub returns-then-is_empty-clause-counts : goal.returns-then-is_empty-clause-counts
 returns-then-is_empty-clause-counts g c =

@@ -2,7 +2,7 @@ use Rattle.std.proofs.Common.{◌∙◌, length, ap, sym}
 use Rattle.std.proofs.lemmas.List.{length-map}
 use Rattle.rx_set.specs.View.{row_of}
 use Rattle.rx_top.proofs.NewBanks.{layout_fits, new_stands}
-use Rattle.rx_top.proofs.tops.new_bank.Goals as goal
+use Rattle.rx_top.proofs.runs.new_bank.Goals as goal
 
 pub new-requires : goal.new-requires
 new-requires c =
