@@ -6,12 +6,17 @@
 //! writes nothing. Where the last of the output cannot be handed to the system it ends with code 7.
 #![tactic(auto)]
 
-ghost use Rattle.std.specs.Prelude.{◌≡◌, ◌≢◌};
-ghost use Rattle.rx_top.specs.declared.status.Status.TheVariants.{WriteFault};
+ghost use Rattle.std.specs.Prelude.{◌≡◌, ◌≢◌, [], IfErr, IfOk};
+ghost use Rattle.std.specs.Io.Buffered.{writer_buffer, writer_contents};
+ghost use Rattle.std.specs.Io.KnownBytes.{Keeps};
+ghost use Rattle.std.specs.IoError.{error_kind};
+ghost use Rattle.std.specs.Process.{exit_status};
+ghost use Rattle.rx_io.specs.declared.status.Status.TheVariants.{WriteFault};
+ghost use Rattle.rx_io.specs.Statuses.{code_of};
 
-use rx_io::{InSource, OutSink};
+use rx_io::{InSource, OutSink, Status};
 use rx_lanes::NoGate;
-use rx_top::{Left, Status, top};
+use rx_top::{Left, top};
 use std::alloc::Global;
 use std::io::{BufWriter, ErrorKind, Write};
 use std::process::ExitCode;
@@ -34,23 +39,15 @@ fn words(rt: &impl Env, alloc: Global) -> io::Result<Vec<String>> {
     Ok(words)
 }
 
-/// The code for words that are not there.
-fn refusal(error: &io::Error) -> u8 {
-    if error.kind() == ErrorKind::OutOfMemory {
-        Status::NoMemory.code()
-    } else {
-        REFUSED
-    }
-}
-
-/// Hands what is gathered to the system. Where that fails, or a write failed before, what is left of it is let go.
-fn finish<W: Write + Drop>(status: Status, mut writer: BufWriter<W>) -> Status
-    ensures { result ≢ WriteFault → result ≡ status }
+/// Hands what is gathered to the system, and answers the status, or that it could not be done. Where a write failed
+/// before, nothing more is handed on.
+fn finish<W: Write + Drop>(status: Status, writer: &mut BufWriter<W>) -> Status
+    ensures done { result ≢ WriteFault → (result ≡ status) × (writer_buffer writer.new ≡ []) }
+    ensures bytes { Keeps (writer_contents W.contents writer.old) (writer_contents W.contents writer.new) }
 {
     if status != Status::WriteFault && writer.flush().is_ok() {
         return status;
     }
-    let _let_go = writer.into_parts();
     Status::WriteFault
 }
 
@@ -64,13 +61,33 @@ fn answer(rt: &(impl Input + Print + Threads + Sync), alloc: Global, words: &[St
     let mut sink = OutSink::new(&mut writer);
     let mut left = Left::Nothing;
     let status = top(rt, alloc, words, &mut source, &mut sink, &NoGate, &mut left);
-    finish(status, writer)
+    let ended = finish(status, &mut writer);
+    // What could not be handed on is let go.
+    let _let_go = writer.into_parts();
+    ended
+}
+
+/// The code that the program ends with: that of its status, 8 where there was no memory for its words, and 11 where the
+/// system refused them.
+fn exit_code(ended: io::Result<Status>) -> ExitCode
+    ensures status { IfOk ended (λ status. exit_status result ≡ code_of status) }
+    ensures memory { IfErr ended (λ error. error_kind error ≡ ErrorKind.OutOfMemory → exit_status result ≡ 8) }
+    ensures refused { IfErr ended (λ error. error_kind error ≢ ErrorKind.OutOfMemory → exit_status result ≡ 11) }
+{
+    let code = match ended {
+        Ok(status) => status.code(),
+        Err(error) if error.kind() == ErrorKind::OutOfMemory => Status::NoMemory.code(),
+        Err(_) => REFUSED,
+    };
+    ExitCode::from(code)
+}
+
+/// Reads the words and answers them.
+fn run(rt: &(impl Env + Input + Print + Threads + Sync), alloc: Global) -> io::Result<Status> {
+    let words = words(rt, alloc)?;
+    Ok(answer(rt, alloc, words.as_slice()))
 }
 
 fn main(rt: HostRuntime) -> ExitCode {
-    let alloc = rt.alloc();
-    match words(&rt, alloc) {
-        Ok(words) => ExitCode::from(answer(&rt, alloc, words.as_slice()).code()),
-        Err(error) => ExitCode::from(refusal(&error)),
-    }
+    exit_code(run(&rt, rt.alloc()))
 }
