@@ -1,5 +1,5 @@
 -- Runs of writes, one after the other.
-use Rattle.std.proofs.Common.{◌≡◌, ◌≤◌, ◌<◌, ◌+◌, ◌-◌, ℕ, List, [], ◌∷◌, ◌++◌, Option, Result, Ok, Err, true≢false, refl, sym, ap, ◌∙◌, append_assoc, append-nil, length, take, drop, subst, take-append-drop, arith}
+use Rattle.std.proofs.Common.{◌≡◌, ◌≤◌, ◌<◌, ◌+◌, ◌-◌, ℕ, List, [], ◌∷◌, ◌++◌, Result, Ok, Err, true≢false, refl, sym, ap, ◌∙◌, append_assoc, append-nil, length, take, drop, subst, take-append-drop, arith}
 use Rattle.std.proofs.Math.Seq.{take-add}
 use Rattle.std.proofs.lemmas.List.{take_all, take_rest, length-append, length-drop, length-take-le}
 use Rattle.std.proofs.lemmas.List.Folds.{concat-append}
@@ -8,7 +8,7 @@ use Rattle.std.specs.Io.KnownBytes.{Appends, Keeps}
 use Rattle.std.proofs.KnownBytes.{Appends-nil, Appends-trans, Appends-kept}
 use Rattle.std.specs.Result.{IsErr}
 use Rattle.rx_io.specs.Ends.{Transfer, Failures, MayBeCalled, SinkState, AreCalled, moved_in}
-use Rattle.rx_io.specs.Causes.{ArePieces, HasFailed, Puts, Takes, TakesFront, TakesNothing, rest_of_piece}
+use Rattle.rx_io.specs.Causes.{ArePieces, HasFailed, Puts, Takes, TakesFront, rest_of_piece}
 use Rattle.rx_io.proofs.Calls.{calls_after, calls_more, calls_none, calls_weaker, cut_before, moved-append, pieces_after, pieces_before, rest_after, rest_inside}
 
 -- nothing is taken of no pieces

@@ -1,5 +1,5 @@
 -- What a clause reads of an `InSource` and an `OutSink`.
-use Rattle.std.specs.Prelude.{ℕ, Bool}
+use Rattle.std.specs.Prelude.{Bool}
 use Rattle.rx_io.specs.declared.adapters.InSource.{InSource}
 use Rattle.rx_io.specs.declared.adapters.OutSink.{OutSink}
 

@@ -1,5 +1,5 @@
 -- What a source and a sink tell of themselves.
-use Rattle.std.specs.Prelude.{◌≡◌, ◌<◌, ◌+◌, ◌^◌, ℕ, Bool, true, false, cond, List, [], ◌∷◌, ◌++◌, Option, Result, Ok, Err, IfOk}
+use Rattle.std.specs.Prelude.{◌≡◌, ◌<◌, ◌+◌, ◌^◌, ℕ, Bool, false, cond, List, [], ◌∷◌, ◌++◌, Option, Result, Ok, Err, IfOk}
 
 -- a call: how many bytes it asked to move, and how many it moved; one that failed moved none
 pub record Transfer : Type 0 where

@@ -7,14 +7,13 @@ use Rattle.std.proofs.lemmas.List.{length-append}
 use Rattle.std.specs.Io.KnownBytes.{Consumes, IsAtEnd}
 use Rattle.rx_io.specs.declared.status.Status.{Status}
 use Rattle.rx_io.specs.Causes.{IsInput}
-use Rattle.rx_set.specs.System.{System}
 use Rattle.rx_seq.specs.declared.entries.Entry.{Entry}
 use Rattle.rx_top.specs.declared.left.Left.{Left}
 use Rattle.rx_top.specs.declared.words.Command.{Command}
 use Rattle.rx_top.specs.declared.words.Command.TheVariants.{Ask, Draw}
 use Rattle.rx_top.specs.declared.words.Query.TheVariants.{Run, Admit, Lanes}
 use Rattle.rx_top.specs.Words.{reads_input, uses_threads}
-use Rattle.rx_top.specs.Outcome.{Ends, Answer, Answered, IsUnread, WritesAll, answer, most_input, set_answer}
+use Rattle.rx_top.specs.Outcome.{Ends, Answer, Answered, WritesAll, answer, most_input, set_answer}
 use Rattle.rx_top.specs.Determined.{SomeOrEach, Determined, Unread}
 use Rattle.rx_top.proofs.Endings.{too_large}
 

@@ -1,6 +1,5 @@
 -- How a call ends: from what is told of its parts.
-use Rattle.std.proofs.Common.{ℕ, ◌≡◌, ◌≤◌, ◌<◌, ◌+◌, ◌==◌, if◌then◌else◌, Bool, true, false, inl, inr, List, [], length, Option, Some, None, IfSome, Result, Ok, Err, is_ok, true≢false, refl, sym, ap, ◌∙◌, subst, arith}
-use Rattle.std.specs.Prelude.{IsSome}
+use Rattle.std.proofs.Common.{ℕ, ◌≡◌, ◌≤◌, ◌<◌, ◌==◌, if◌then◌else◌, Bool, true, false, inl, inr, List, [], length, Option, Some, None, Result, Ok, Err, is_ok, true≢false, refl, sym, ap, ◌∙◌, subst}
 use Rattle.std.specs.Result.{IsErrAnd}
 use Rattle.std.proofs.lemmas.Bool.{cases_lt, lt-leb, le-leb}
 use Rattle.rx_io.specs.declared.status.Status.{Status}
@@ -33,7 +32,7 @@ use Rattle.rx_top.specs.Words.{reads_input}
 use Rattle.rx_top.specs.Drawn.{drawn_ticks}
 use Rattle.rx_top.specs.Report.{reported_misses}
 use Rattle.rx_top.specs.Stops.{ending_of, status_of}
-use Rattle.rx_top.specs.Outcome.{Answer, Answered, Ending, Ends, IsLast, Reads, ReadsSome, IsUnread, Outcome, WritesAnswer, WritesFront, admit_status_by, answer, draw_answer, edf_status, ends, fault_status, file_answer, fixed_status, input_answer, large_answer, most_input, run_answer, set_answer, words_answer}
+use Rattle.rx_top.specs.Outcome.{Answer, Answered, Ending, Ends, IsLast, Reads, ReadsSome, IsUnread, Outcome, WritesAnswer, WritesFront, admit_status_by, answer, draw_answer, edf_status, ends, fault_status, file_answer, fixed_status, input_answer, large_answer, most_input, set_answer, words_answer}
 
 -- all inputs of too many bytes have one answer
 pub too_large : (of_set : System → Answer) (input : List ℕ) → most_input < length input → input_answer of_set input ≡ large_answer

@@ -1,5 +1,5 @@
 -- From the answer that a call gives to what each command promises.
-use Rattle.std.proofs.Common.{ℕ, ◌≡◌, ◌≢◌, ◌≤◌, ◌<◌, ◌+◌, ◌==◌, ◌↔◌, inl, inr, codes, get_or, if◌then◌else◌, Bool, true, false, List, [], ◌++◌, length, drop, Option, Some, None, IfSome, Result, is_ok, refl, sym, ap, ◌∙◌, subst, append-nil, true≢false, slice_get, arith}
+use Rattle.std.proofs.Common.{ℕ, ◌≡◌, ◌≢◌, ◌≤◌, ◌<◌, ◌+◌, ◌==◌, ◌↔◌, codes, get_or, if◌then◌else◌, true, false, List, [], length, Option, Some, None, IfSome, Result, is_ok, refl, sym, ap, ◌∙◌, subst, true≢false, slice_get, arith}
 use Rattle.std.proofs.Math.ListN.{drop_of_length-le}
 use Rattle.std.proofs.lemmas.Option.{slice_get-map}
 use Rattle.std.specs.Option.{option_map}
@@ -27,7 +27,6 @@ use Rattle.rx_edf.specs.Verdicts.{verdict_of as edf_verdict_of}
 use Rattle.rx_report.specs.VerdictLines.{fixed_line}
 use Rattle.rx_report.specs.SpanLines.{edf_line}
 use Rattle.rx_top.specs.Drawn.{drawn_ticks}
-use Rattle.rx_file.specs.SetOf.{set_of}
 use Rattle.rx_top.specs.declared.left.Left.{Left}
 use Rattle.rx_top.specs.declared.left.Left.TheVariants.{Nothing, Bank, Closed}
 use Rattle.rx_io.specs.declared.status.Status.{Status}

@@ -1,6 +1,6 @@
-use Rattle.std.proofs.Common.{◌<◌, ◌≤◌, ◌∙◌, length, refl, arith}
+use Rattle.std.proofs.Common.{◌<◌, ◌∙◌, length, refl, arith}
 use Rattle.rx_io.specs.Ends.{SinkState}
-use Rattle.rx_io.proofs.Puts.{put_calls, put_more, put_refused, put_whole, put_within, puts_failed}
+use Rattle.rx_io.proofs.Puts.{put_calls, put_more, put_refused, put_within, puts_failed}
 use Rattle.rx_io.proofs.writes.put.Goals as goal
 
 pub returns-in_err-at : goal.returns-in_err-at

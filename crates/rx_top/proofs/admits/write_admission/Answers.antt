@@ -1,4 +1,4 @@
-use Rattle.std.proofs.Common.{[], ◌∷◌, ap, sym, append-nil, refl}
+use Rattle.std.proofs.Common.{◌∷◌, ap, sym, append-nil, refl}
 use Rattle.rx_fixed.specs.Verdicts.{verdict_of}
 use Rattle.rx_report.specs.VerdictLines.{fixed_line}
 use Rattle.rx_io.proofs.Puts.{puts_cut, puts_cut_first, takes_next}

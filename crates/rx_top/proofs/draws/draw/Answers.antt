@@ -1,4 +1,4 @@
-use Rattle.std.proofs.Common.{List, ℕ, refl, subst}
+use Rattle.std.proofs.Common.{refl, subst}
 use Rattle.rx_io.specs.Causes.{Takes, TakesFront}
 use Rattle.rx_set.specs.System.{System}
 use Rattle.rx_top.specs.Drawn.{drawn_report}
