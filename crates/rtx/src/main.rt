@@ -39,10 +39,11 @@ fn words(rt: &impl Env, alloc: Global) -> io::Result<Vec<String>> {
     Ok(words)
 }
 
-/// Hands what is gathered to the system, and answers the status, or that it could not be done. Where a write failed
-/// before, nothing more is handed on.
+/// Hands what is gathered to the system, and answers the status that it is given, or that this could not be done. Where
+/// that says that a write failed, nothing more is handed on.
 fn finish<W: Write + Drop>(status: Status, writer: &mut BufWriter<W>) -> Status
     ensures done { result ≢ WriteFault → (result ≡ status) × (writer_buffer writer.new ≡ []) }
+    ensures kept { status ≡ WriteFault → writer.new ≡ writer.old }
     ensures bytes { Keeps (writer_contents W.contents writer.old) (writer_contents W.contents writer.new) }
 {
     if status != Status::WriteFault && writer.flush().is_ok() {

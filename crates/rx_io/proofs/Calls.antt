@@ -3,8 +3,8 @@ use Rattle.std.proofs.Common.{◌≡◌, ◌≤◌, ◌<◌, ◌+◌, ◌-◌, �
 use Rattle.std.proofs.lemmas.Bool.{cases_lt, lt-ltb, le-ltb}
 use Rattle.std.proofs.lemmas.List.{length-append}
 use Rattle.std.specs.List.{concat}
-use Rattle.rx_io.specs.Ends.{Transfer, AreCalled, moved_in}
-use Rattle.rx_io.specs.Causes.{ArePieces, rest_of_piece}
+use Rattle.rx_io.specs.States.{Transfer, AreCalled, moved_in}
+use Rattle.rx_io.specs.Causes.{ArePieces, EndRefused, rest_of_piece}
 
 -- no calls
 pub calls_none : (a : List Transfer → Type 0) (P : List Transfer → Type 0) → P [] → AreCalled a a P
@@ -80,12 +80,28 @@ cut_before xs ys at n some is = is ∙ sym (rest_before xs ys at (within xs at (
 
 pub pieces_before : (xs ys : List (List ℕ)) (calls : List Transfer) → ArePieces xs calls → ArePieces (xs ++ ys) calls
 pieces_before xs ys [] are = tt
-pieces_before xs ys (call ∷ past) are = (are.0, cut_before xs ys (moved_in past) call.asked are.0 are.1, pieces_before xs ys past are.2)
+pieces_before xs ys (call ∷ past) are = (are.0, are.1, cut_before xs ys (moved_in past) call.asked (omega (arith, are.0, are.1)) are.2, pieces_before xs ys past are.3)
 
 pub pieces_after : (xs ys : List (List ℕ)) (first next : List Transfer) → ArePieces xs first → moved_in first ≡ length (concat xs) → ArePieces ys next → ArePieces (xs ++ ys) (next ++ first)
 pieces_after xs ys first [] before all are = pieces_before xs ys first before
 pieces_after xs ys first (call ∷ past) before all are = (
   are.0,
-  are.1 ∙ sym (rest_after xs ys (moved_in past)) ∙ ap (rest_of_piece (xs ++ ys)) (omega (arith, all, moved-append past first)),
+  are.1,
+  are.2 ∙ sym (rest_after xs ys (moved_in past)) ∙ ap (rest_of_piece (xs ++ ys)) (omega (arith, all, moved-append past first)),
+  pieces_after xs ys first past before all are.3,
+)
+
+-- the same where the last call was refused
+pub refused_before : (xs ys : List (List ℕ)) (taken refused : ℕ) (calls : List Transfer) → EndRefused xs taken refused calls → EndRefused (xs ++ ys) taken refused calls
+refused_before xs ys taken refused [] are = absurd are
+refused_before xs ys taken refused (call ∷ past) are = (are.0, are.1, pieces_before xs ys past are.2, are.3)
+
+pub refused_after : (xs ys : List (List ℕ)) (taken refused : ℕ) (first next : List Transfer) → ArePieces xs first → moved_in first ≡ length (concat xs) → EndRefused ys taken refused next
+    → EndRefused (xs ++ ys) (length (concat xs) + taken) refused (next ++ first)
+refused_after xs ys taken refused first [] before all are = absurd are
+refused_after xs ys taken refused first (call ∷ past) before all are = (
+  are.0,
+  are.1,
   pieces_after xs ys first past before all are.2,
+  omega (arith, all, are.3, moved-append past first),
 )

@@ -1,3 +1,4 @@
+mod CallRows
 mod MemoryRows
 pub mod Calls
 pub mod Puts

@@ -7,9 +7,9 @@ use Rattle.std.specs.List.{concat}
 use Rattle.std.specs.Io.KnownBytes.{Appends, Keeps}
 use Rattle.std.proofs.KnownBytes.{Appends-nil, Appends-trans, Appends-kept}
 use Rattle.std.specs.Result.{IsErr}
-use Rattle.rx_io.specs.Ends.{Transfer, Failures, MayBeCalled, SinkState, AreCalled, moved_in}
-use Rattle.rx_io.specs.Causes.{ArePieces, HasFailed, Puts, Takes, TakesFront, rest_of_piece}
-use Rattle.rx_io.proofs.Calls.{calls_after, calls_more, calls_none, calls_weaker, cut_before, moved-append, pieces_after, pieces_before, rest_after, rest_inside}
+use Rattle.rx_io.specs.States.{Transfer, Failures, MayBeCalled, SinkState, AreCalled, moved_in}
+use Rattle.rx_io.specs.Causes.{ArePieces, EndRefused, HasFailed, Puts, Takes, TakesFront, rest_of_piece}
+use Rattle.rx_io.proofs.Calls.{calls_after, calls_more, calls_none, calls_weaker, cut_before, moved-append, pieces_after, refused_after, refused_before, rest_after, rest_inside}
 
 -- nothing is taken of no pieces
 pub takes_nothing : (a : SinkState) → Takes a a []
@@ -48,10 +48,8 @@ front_after a b c xs ys first part =
       some = part.some;
       cut = part.cut ∙ sym (rest_after xs ys (length part.front)) ∙ ap (rest_of_piece (xs ++ ys)) (omega (arith, long));
       bytes = Appends-trans a.taken b.taken c.taken (concat xs) part.front first.bytes part.bytes;
-      calls = calls_after a.calls b.calls c.calls _ _ _ first.calls part.calls (λ before after are more. (
-        pieces_after xs ys before after are.0 are.1 more.0,
-        omega (arith, are.1, more.1, moved-append after before, long),
-      ));
+      calls = subst (λ n. AreCalled a.calls c.calls (EndRefused (xs ++ ys) n (length part.refused))) (sym long)
+          (calls_after a.calls b.calls c.calls _ _ _ first.calls part.calls (λ before after are more. refused_after xs ys (length part.front) (length part.refused) before after are.0 are.1 more));
       refuses = part.refuses;
       failed = subst (λ (f : Failures). HasFailed f c.failures) first.kept part.failed;
     }
@@ -67,7 +65,7 @@ front_before a b xs ys part = record {
   some = part.some;
   cut = cut_before xs ys (length part.front) (length part.refused) part.some part.cut;
   bytes = part.bytes;
-  calls = calls_weaker a.calls b.calls _ _ part.calls (λ calls are. (pieces_before xs ys calls are.0, are.1));
+  calls = calls_weaker a.calls b.calls _ _ part.calls (λ calls are. refused_before xs ys (length part.front) (length part.refused) calls are);
   refuses = part.refuses;
   failed = part.failed;
 }
@@ -101,13 +99,13 @@ module _ (a b c : SinkState) (at asked : ℕ) (piece : List ℕ) (inside : at < 
   long = is ∙ ap length (take_rest piece at) ∙ length-drop at piece
 
   -- one call more is for all that is left of the piece
-  call_asks : (calls : List Transfer) (moved : ℕ) → ArePieces (piece ∷ []) calls → moved_in calls ≡ at → ArePieces (piece ∷ []) (record { asked = asked; moved = moved } ∷ calls)
-  call_asks calls moved are come = (omega (arith, inside, long), long ∙ sym (rest_inside piece [] at inside) ∙ ap (rest_of_piece (piece ∷ [])) (sym come), are)
+  call_asks : (calls : List Transfer) (moved : ℕ) → 0 < moved → moved ≤ asked → ArePieces (piece ∷ []) calls → moved_in calls ≡ at → ArePieces (piece ∷ []) (record { asked = asked; moved = moved } ∷ calls)
+  call_asks calls moved some most are come = (some, most, long ∙ sym (rest_inside piece [] at inside) ∙ ap (rest_of_piece (piece ∷ [])) (sym come), are)
 
-  pub put_calls : (moved : ℕ) → AreCalled a.calls b.calls (λ calls. ArePieces (piece ∷ []) calls × (moved_in calls ≡ at))
+  pub put_calls : (moved : ℕ) → 0 < moved → moved ≤ asked → AreCalled a.calls b.calls (λ calls. ArePieces (piece ∷ []) calls × (moved_in calls ≡ at))
       → ((past : List Transfer) → b.calls past → c.calls (record { asked = asked; moved = moved } ∷ past))
       → AreCalled a.calls c.calls (λ calls. ArePieces (piece ∷ []) calls × (moved_in calls ≡ at + moved))
-  put_calls moved before next = calls_more a.calls b.calls c.calls _ _ _ before next (λ calls are. (call_asks calls moved are.0 are.1, omega (arith, are.1)))
+  put_calls moved some most before next = calls_more a.calls b.calls c.calls _ _ _ before next (λ calls are. (call_asks calls moved some most are.0 are.1, omega (arith, are.1)))
 
   -- the sink refused all that is left of the piece
   pub put_refused : Appends a.taken b.taken (take at piece) → Keeps b.taken c.taken
@@ -123,7 +121,7 @@ module _ (a b c : SinkState) (at asked : ℕ) (piece : List ℕ) (inside : at < 
         some = omega (arith, inside, length-drop at piece);
         cut = length-drop at piece ∙ sym (rest_inside piece [] at inside) ∙ ap (rest_of_piece (piece ∷ [])) (sym come);
         bytes = Appends-kept a.taken b.taken c.taken (take at piece) bytes stay;
-        calls = calls_weaker a.calls c.calls _ _ (put_calls 0 before next) (λ calls are. (are.0, omega (arith, are.1, come)));
+        calls = calls_more a.calls b.calls c.calls _ _ _ before next (λ calls are. (long ∙ sym (length-drop at piece), refl, are.0, are.1 ∙ sym come));
         refuses = subst c.refuses (take_rest piece at) refuses;
         failed = subst (λ (f : Failures). HasFailed f c.failures) kept failed;
       }
@@ -132,6 +130,10 @@ module _ (a b c : SinkState) (at asked : ℕ) (piece : List ℕ) (inside : at < 
   pub put_more : (moved : ℕ) → Appends a.taken b.taken (take at piece) → Appends b.taken c.taken (take moved (take (length piece - at) (drop at piece))) → Appends a.taken c.taken (take (at + moved) piece)
   put_more moved first next =
       subst (Appends a.taken c.taken) (ap (λ r. take at piece ++ take moved r) (take_rest piece at) ∙ sym (take-add at moved piece)) (Appends-trans a.taken b.taken c.taken _ _ first next)
+
+-- there is a rest
+pub slice_some : (at : ℕ) (piece : List ℕ) → at < length piece → 0 < length (take (length piece - at) (drop at piece))
+slice_some at piece inside = omega (arith, inside, ap length (take_rest piece at), length-drop at piece)
 
 -- a write of the rest ends within the piece
 pub put_within : (at moved : ℕ) (piece : List ℕ) → at ≤ length piece → moved ≤ length (take (length piece - at) (drop at piece)) → at + moved ≤ length piece

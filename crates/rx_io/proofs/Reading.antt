@@ -5,8 +5,8 @@ use Rattle.std.proofs.lemmas.Grind.{common_steps}
 use Rattle.std.specs.Result.{IfErr, IsErrAnd}
 use Rattle.std.specs.Io.KnownBytes.{Consumes}
 use Rattle.std.proofs.KnownBytes.{Consumes-trans}
-use Rattle.rx_io.specs.Ends.{Transfer, SourceState, AreCalled, moved_in}
-use Rattle.rx_io.specs.Causes.{AreSteps, GotPiece}
+use Rattle.rx_io.specs.States.{Transfer, SourceState, AreCalled, moved_in}
+use Rattle.rx_io.specs.Causes.{AllMove, AreSteps, GotPiece}
 
 -- a front of what was left, and the rest
 pub gives_front : (bytes : List ℕ) (at n : ℕ) → drop at bytes ≡ take n (drop at bytes) ++ drop (at + n) bytes
@@ -32,20 +32,33 @@ gives_piece bytes left piece tail at n h e copied =
     sym e ∙ gives_front bytes at n ∙ ap (λ r. r ++ drop (at + n) bytes) (sym front)
 
 -- one call more asks for a step, or for what is left up to the limit
-module _ (a b c : SourceState) (step limit at asked : ℕ) (is : asked ≡ min step (limit - at)) (before : AreCalled a.calls b.calls (λ calls. AreSteps step limit calls × (moved_in calls ≡ at))) where
+module _ (a b c : SourceState) (step limit at asked : ℕ) (some : 0 < asked) (is : asked ≡ min step (limit - at)) (before : AreCalled a.calls b.calls (λ calls. AreSteps step limit calls × AllMove calls × (moved_in calls ≡ at))) where
+  step_asks : (calls : List Transfer) (moved : ℕ) → AreSteps step limit calls → AllMove calls → moved_in calls ≡ at → AreSteps step limit (record { asked = asked; moved = moved } ∷ calls)
+  step_asks calls moved are move come = (some, is ∙ ap (λ n. min step (limit - n)) (sym come), move, are)
+
   pub steps_told : ((past : List Transfer) → b.calls past → (moved : ℕ) × c.calls (record { asked = asked; moved = moved } ∷ past) × Unit {0}) → AreCalled a.calls c.calls (AreSteps step limit)
   steps_told next = λ past told.
       let calls = before past told in
       let more = next (calls.0 ++ past) calls.2 in
-      (record { asked = asked; moved = more.0 } ∷ calls.0, (is ∙ ap (λ n. min step (limit - n)) (sym calls.1.1), calls.1.0), more.1)
+      (record { asked = asked; moved = more.0 } ∷ calls.0, step_asks calls.0 more.0 calls.1.0 calls.1.1 calls.1.2, more.1)
 
   -- where the last one told how many bytes it moved
-  pub steps_known : (count after : ℕ) → ((past : List Transfer) → b.calls past → (moved : ℕ) × c.calls (record { asked = asked; moved = moved } ∷ past) × (moved ≡ count)) → after ≡ at + count
-      → AreCalled a.calls c.calls (λ calls. AreSteps step limit calls × (moved_in calls ≡ after))
-  steps_known count after next sum = λ past told.
-      let calls = before past told in
-      let more = next (calls.0 ++ past) calls.2 in
-      (record { asked = asked; moved = more.0 } ∷ calls.0, ((is ∙ ap (λ n. min step (limit - n)) (sym calls.1.1), calls.1.0), omega (arith, sum, more.2, calls.1.1)), more.1)
+  module _ (count after : ℕ) (next : (past : List Transfer) → b.calls past → (moved : ℕ) × c.calls (record { asked = asked; moved = moved } ∷ past) × (moved ≡ count)) (sum : after ≡ at + count) where
+    pub steps_known : AreCalled a.calls c.calls (λ calls. AreSteps step limit calls × (moved_in calls ≡ after))
+    steps_known = λ past told.
+        let calls = before past told in
+        let more = next (calls.0 ++ past) calls.2 in
+        (record { asked = asked; moved = more.0 } ∷ calls.0, (step_asks calls.0 more.0 calls.1.0 calls.1.1 calls.1.2, omega (arith, sum, more.2, calls.1.2)), more.1)
+
+    -- and it moved some
+    pub steps_go_on : 0 < count → AreCalled a.calls c.calls (λ calls. AreSteps step limit calls × AllMove calls × (moved_in calls ≡ after))
+    steps_go_on more_than_none = λ past told.
+        let calls = before past told in
+        let more = next (calls.0 ++ past) calls.2 in (
+          record { asked = asked; moved = more.0 } ∷ calls.0,
+          (step_asks calls.0 more.0 calls.1.0 calls.1.1 calls.1.2, (omega (arith, more.2, more_than_none), calls.1.1), omega (arith, sum, more.2, calls.1.2)),
+          more.1,
+        )
 
 -- one piece more was consumed
 pub piece_consumed : (a b c : SourceState) (before after : List ℕ) (count : ℕ) → Consumes a.left b.left before → GotPiece b.left c.left before after count → Consumes a.left c.left after

@@ -4,11 +4,11 @@ use Rattle.std.specs.List.{concat}
 use Rattle.std.specs.Io.KnownBytes.{Appends, Consumes, IsAtEnd, Keeps}
 use Rattle.rx_io.specs.declared.reads.ReadError.{ReadError}
 use Rattle.rx_io.specs.declared.reads.ReadError.TheVariants.{Fault, Memory}
-use Rattle.rx_io.specs.Ends.{Transfer, Failures, SourceState, SinkState, AreCalled, moved_in}
+use Rattle.rx_io.specs.States.{Transfer, Failures, SourceState, SinkState, AreCalled, moved_in}
 
--- one more call has failed, and it is the latest
+-- one call more has failed, and it is the latest
 pub record HasFailed (before now : Failures) : Type 0 where
-  pub more : before.count < now.count
+  pub more : now.count ≡ before.count + 1
   pub down : now.down ≡ true
 
 -- the failures stay as they were at `Ok`, and at `Err` there is one more
@@ -16,15 +16,20 @@ pub record HasCause {T E : Type 0} (before now : Failures) (result : Result T E)
   pub kept : OnOk result (now ≡ before)
   pub failed : OnErr result (HasFailed before now)
 
--- how much is left of the piece that holds the byte behind so many, where pieces follow each other
+-- how many bytes of the current piece are left, once so many bytes of all pieces were taken
 abbrev pub rest_of_piece : List (List ℕ) → ℕ → ℕ
 rest_of_piece [] at = 0
 rest_of_piece (piece ∷ pieces) at = if nat_lt at (length piece) then length piece - at else rest_of_piece pieces (at - length piece)
 
--- Calls that hand in these pieces, one after the other: each asks for one byte or more, and for all that is left of the piece that the calls before it have come to.
+-- Calls that hand in these pieces, one after the other: each is for all that is left of the piece that the calls before it have come to, and the sink takes a byte or more of it.
 abbrev pub ArePieces : List (List ℕ) → List Transfer → Type 0
 ArePieces pieces [] = Unit {0}
-ArePieces pieces (call ∷ past) = (0 < call.asked) × (call.asked ≡ rest_of_piece pieces (moved_in past)) × ArePieces pieces past
+ArePieces pieces (call ∷ past) = (0 < call.moved) × (call.moved ≤ call.asked) × (call.asked ≡ rest_of_piece pieces (moved_in past)) × ArePieces pieces past
+
+-- such calls, by which so many bytes were taken, and then one for so many bytes that the sink refused
+abbrev pub EndRefused : List (List ℕ) → ℕ → ℕ → List Transfer → Type 0
+EndRefused pieces taken refused [] = ⊥
+EndRefused pieces taken refused (call ∷ past) = (call.asked ≡ refused) × (call.moved ≡ 0) × ArePieces pieces past × (moved_in past ≡ taken)
 
 -- All of these pieces were taken, in such calls and no others, and none of them failed.
 pub record Takes (old new : SinkState) (pieces : List (List ℕ)) : Type 0 where
@@ -32,7 +37,7 @@ pub record Takes (old new : SinkState) (pieces : List (List ℕ)) : Type 0 where
   pub calls : AreCalled old.calls new.calls (λ calls. ArePieces pieces calls × (moved_in calls ≡ length (concat pieces)))
   pub kept : new.failures ≡ old.failures
 
--- A front of these pieces was taken, in such calls and no others. The last of them failed: in it the sink refused all that was left of a piece.
+-- A front of these pieces was taken, in such calls and no others, and then one call more failed: in it the sink refused all that was left of a piece.
 pub record TakesFront (old new : SinkState) (pieces : List (List ℕ)) : Type 0 where
   pub front : List ℕ
   pub refused : List ℕ
@@ -41,7 +46,7 @@ pub record TakesFront (old new : SinkState) (pieces : List (List ℕ)) : Type 0 
   pub some : 0 < length refused
   pub cut : length refused ≡ rest_of_piece pieces (length front)
   pub bytes : Appends old.taken new.taken front
-  pub calls : AreCalled old.calls new.calls (λ calls. ArePieces pieces calls × (moved_in calls ≡ length front))
+  pub calls : AreCalled old.calls new.calls (EndRefused pieces (length front) (length refused))
   pub refuses : new.refuses refused
   pub failed : HasFailed old.failures new.failures
 
@@ -56,10 +61,15 @@ abbrev pub Puts : {T E : Type 0} → SinkState → SinkState → Result T E → 
 Puts old new (Ok x) pieces = Takes old new pieces
 Puts old new (Err e) pieces = TakesFront old new pieces
 
--- Calls that read up to a limit by steps: each asks for as many bytes as a step has, or as are left up to the limit.
+-- each of the calls moved a byte or more
+abbrev pub AllMove : List Transfer → Type 0
+AllMove [] = Unit {0}
+AllMove (call ∷ past) = (0 < call.moved) × AllMove past
+
+-- Calls that read up to a limit by steps: each asks for as many bytes as a step has, or as are left up to the limit, and for one or more. None follows a call that moved nothing.
 abbrev pub AreSteps : ℕ → ℕ → List Transfer → Type 0
 AreSteps step limit [] = Unit {0}
-AreSteps step limit (call ∷ past) = (call.asked ≡ min step (limit - moved_in past)) × AreSteps step limit past
+AreSteps step limit (call ∷ past) = (0 < call.asked) × (call.asked ≡ min step (limit - moved_in past)) × AllMove past × AreSteps step limit past
 
 -- a call of a source is asked for at most so many bytes
 abbrev pub read_step : ℕ

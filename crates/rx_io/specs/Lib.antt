@@ -1,4 +1,4 @@
-pub mod Ends
+pub mod States
 pub mod Causes
 pub mod Memory
 pub mod Adapters

@@ -1,7 +1,7 @@
 -- A source and a sink in memory, and what a call makes of them.
 use Rattle.std.specs.Prelude.{◌≡◌, ◌+◌, ◌-◌, ◌^◌, ◌==◌, ◌&&◌, not, min, ℕ, List, ◌++◌, Bool, true, length, drop, Some}
 use Rattle.std.specs.List.{list_any}
-use Rattle.rx_io.specs.Ends.{Transfer, SourceState, SinkState, failures_of}
+use Rattle.rx_io.specs.States.{Transfer, SourceState, SinkState, failures_of}
 
 -- what is left, how many bytes a call gives at most, which calls fail, how many calls there were, and whether the latest failed
 pub record MemoryIn : Type 0 where

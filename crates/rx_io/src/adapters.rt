@@ -2,14 +2,14 @@
 ghost use Rattle.std.specs.Prelude.{◌≡◌, ◌<◌, ◌≤◌, false, length, IfOk, OnErr};
 ghost use Rattle.std.specs.Io.{ReadsAtMost, WritesAtMost};
 ghost use Rattle.std.specs.Io.KnownBytes.{ReadConsumes, WriteAppends};
-ghost use Rattle.rx_io.specs.Ends.{IsCalled, MayBeCalled, failures_of};
+ghost use Rattle.rx_io.specs.States.{IsCalled, MayBeCalled, failures_of};
 ghost use Rattle.rx_io.specs.Causes.{HasCause};
 ghost use Rattle.rx_io.specs.Adapters.{in_down, in_inner, out_down, out_inner};
 
 use crate::traits::{Failed, Sink, Source};
 use std::io::{Read, Write};
 
-/// A source over a reader of std, with a count of the reader's errors.
+/// A source over a reader of std, until an error of the reader.
 ///
 /// Over a reader in memory it tells the bytes left, as the reader does. Over standard input it tells nothing of them.
 #[derive(Drop)]
@@ -19,7 +19,7 @@ pub struct InSource<R: Read> {
 }
 
 impl<R: Read> InSource<R> {
-    /// A source over `inner` with a count of 0. Takes no memory.
+    /// A source over `inner`, none of whose calls has failed. Takes no memory.
     pub fn new(inner: R) -> InSource<R>
         ensures inner { in_inner result ≡ inner }
         ensures up { in_down result ≡ false }
@@ -42,7 +42,7 @@ impl<R: Read> Source for InSource<R> {
       failures = failures_of (in_down s);
     } };
 
-    /// One call of the reader. The count rises by 1 at each of its errors.
+    /// One call of the reader. It fails at an error of the reader.
     fn read(&mut self, buf: &mut [u8]) -> Result<usize, Failed>
         requires { MayBeCalled (failures_of (in_down self.old)) }
         ensures bound { ReadsAtMost result buf.new }
@@ -61,7 +61,7 @@ impl<R: Read> Source for InSource<R> {
     }
 }
 
-/// A sink over a writer of std, with a count of the writer's errors.
+/// A sink over a writer of std, until an error of the writer.
 ///
 /// Over a writer in memory it tells the bytes taken, as the writer does. Over standard output it tells nothing of them.
 /// A writer that keeps bytes in a buffer, as `BufWriter`, is to be flushed by who made it: hand in `&mut writer`, or
@@ -73,7 +73,7 @@ pub struct OutSink<W: Write> {
 }
 
 impl<W: Write> OutSink<W> {
-    /// A sink over `inner` with a count of 0. Takes no memory.
+    /// A sink over `inner`, none of whose calls has failed. Takes no memory.
     pub fn new(inner: W) -> OutSink<W>
         ensures inner { out_inner result ≡ inner }
         ensures up { out_down result ≡ false }
@@ -97,8 +97,7 @@ impl<W: Write> Sink for OutSink<W> {
       failures = failures_of (out_down s);
     } };
 
-    /// One call of the writer. The count rises by 1 at each of its errors, and where it took 0 bytes of a piece that
-    /// has a byte.
+    /// One call of the writer. It fails at an error of the writer, and where it took 0 bytes of a piece that has a byte.
     fn write(&mut self, piece: &[u8]) -> Result<usize, Failed>
         requires { MayBeCalled (failures_of (out_down self.old)) }
         ensures bound { WritesAtMost result piece.now }

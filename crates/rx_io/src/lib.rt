@@ -2,7 +2,8 @@
 //!
 //! `Source` and `Sink` are what the crates above read from and write to. `InSource` and `OutSink` make them of a
 //! reader and a writer of std, and `MemorySource` and `MemorySink` keep their bytes in memory and fail where they are
-//! told to. `read_all` reads a whole input up to a limit, and `put` hands in a whole piece.
+//! told to. `read_all` reads a whole input up to a limit, and `put` hands in a whole piece. `Status` is how a call of a
+//! program ends that reads and writes them.
 #![tactic(auto)]
 
 mod adapters;

@@ -2,7 +2,7 @@
 ghost use Rattle.std.specs.Prelude.{◌≡◌, ◌<◌, ◌≤◌, [], ◌++◌, ◌||◌, false, length, take, drop, is_err, IfOk, OnErr, Some};
 ghost use Rattle.std.specs.Io.{ReadsAtMost, WritesAtMost};
 ghost use Rattle.std.specs.Io.KnownBytes.{ReadConsumes, WriteAppends};
-ghost use Rattle.rx_io.specs.Ends.{IsCalled, MayBeCalled, failures_of};
+ghost use Rattle.rx_io.specs.States.{IsCalled, MayBeCalled, failures_of};
 ghost use Rattle.rx_io.specs.Causes.{HasCause};
 ghost use Rattle.rx_io.specs.Memory.{AreCounted, source_state, sink_state, next_call, is_listed, is_full, given_count, after_read, after_failed_read, taken_count, after_write, after_failed_write};
 
@@ -42,8 +42,8 @@ impl MemorySource {
     /// A source of these bytes that gives at most `step` bytes a call, and fails exactly in its calls whose numbers,
     /// from 1, are in `fails`. A call that fails gives nothing and counts as a call.
     ///
-    /// A source that failed is called no more, so of several numbers the least has a meaning alone. The number of the
-    /// call stands still at 2^64 - 1. Takes no memory. Wants a `step` of 1 or more. A call of `read`
+    /// A source that failed is called no more, so of several numbers the least from 1 on has a meaning alone. The number
+    /// of the call stands still at 2^64 - 1. Takes no memory. Wants a `step` of 1 or more. A call of `read`
     /// copies what it gives and looks through all of `fails`.
     pub fn new(bytes: Vec<u8>, step: usize, fails: Vec<u64>) -> MemorySource
         requires { 1 ≤ step }
@@ -140,8 +140,8 @@ impl MemorySink {
     /// whose numbers, from 1, are in `fails`, and in those with a piece of a byte or more once `room` bytes are taken.
     /// A call that fails takes nothing and counts as a call.
     ///
-    /// A sink that failed is called no more, so of several numbers the least has a meaning alone. The number of the call
-    /// stands still at 2^64 - 1. Takes the memory for `room` bytes at once, so that `write`
+    /// A sink that failed is called no more, so of several numbers the least from 1 on has a meaning alone. The number of
+    /// the call stands still at 2^64 - 1. Takes the memory for `room` bytes at once, so that `write`
     /// takes none, and answers `NoMemory` where it was refused. Wants a `step` of 1 or more. A call of `write` copies
     /// what it takes and looks through all of `fails`.
     pub fn new(

@@ -1,6 +1,6 @@
 //! Reading all that a source gives.
 ghost use Rattle.std.specs.Prelude.{◌≡◌, ◌<◌, ◌≤◌, ◌^◌, ◌+◌, length, IfErr, IfOk, OnOk};
-ghost use Rattle.rx_io.specs.Ends.{MayBeCalled, MayBeTold};
+ghost use Rattle.rx_io.specs.States.{MayBeCalled, MayBeTold};
 ghost use Rattle.rx_io.specs.Causes.{ErrCause, GotPiece, IsInput, StopsReading};
 ghost use Rattle.rx_io.specs.declared.reads.ReadError.TheVariants.{Fault, Memory};
 
@@ -8,7 +8,7 @@ use crate::traits::{Failed, Source};
 use std::alloc::{AllocError, Global};
 
 // How many bytes one call of the source is asked for at most.
-const PIECE: usize = 4096;
+const STEP: usize = 4096;
 
 /// Why a reading ended early.
 #[derive(Clone, Copy, Debug, PartialEq, Eq)]
@@ -70,9 +70,9 @@ pub fn read_all<S: Source>(alloc: Global, source: &mut S, most: usize) -> Result
     ensures stopped { IfErr result (StopsReading most (S.tells source.old) (S.tells source.new)) }
 {
     let mut bytes = Vec::new(alloc);
-    let mut buffer = [0; PIECE];
+    let mut buffer = [0; STEP];
     while bytes.len() <= most {
-        let room = (most + 1 - bytes.len()).min(PIECE);
+        let room = (most + 1 - bytes.len()).min(STEP);
         if read_piece(source, &mut buffer[..room], &mut bytes)? == 0 {
             return Ok(bytes);
         }

@@ -2,7 +2,7 @@
 ghost use Rattle.std.specs.Prelude.{◌<◌, ◌≤◌, length, IfOk, OnErr};
 ghost use Rattle.std.specs.Io.{ReadsAtMost, WritesAtMost};
 ghost use Rattle.std.specs.Io.KnownBytes.{ReadConsumes, WriteAppends};
-ghost use Rattle.rx_io.specs.Ends.{IsCalled, MayBeCalled, SinkState, SourceState};
+ghost use Rattle.rx_io.specs.States.{IsCalled, MayBeCalled, SinkState, SourceState};
 ghost use Rattle.rx_io.specs.Causes.{HasCause};
 
 /// A call of a source or a sink failed, and its count of faults has risen.

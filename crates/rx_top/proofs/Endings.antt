@@ -4,7 +4,7 @@ use Rattle.std.specs.Result.{IsErrAnd}
 use Rattle.std.proofs.lemmas.Bool.{cases_lt, lt-leb, le-leb}
 use Rattle.rx_io.specs.declared.status.Status.{Status}
 use Rattle.rx_io.specs.declared.status.Status.TheVariants.{Done, Adverse, Words, ReadFault, WriteFault, NoMemory}
-use Rattle.rx_io.specs.Ends.{Failures, SourceState, SinkState, MayBeCalled}
+use Rattle.rx_io.specs.States.{Failures, SourceState, SinkState, MayBeCalled}
 use Rattle.rx_io.specs.Causes.{Takes}
 use Rattle.rx_io.proofs.Calls.{calls_none}
 use Rattle.rx_set.specs.declared.policies.Policy.{Policy}
@@ -32,7 +32,7 @@ use Rattle.rx_top.specs.Words.{reads_input}
 use Rattle.rx_top.specs.Drawn.{drawn_ticks}
 use Rattle.rx_top.specs.Report.{reported_misses}
 use Rattle.rx_top.specs.Stops.{ending_of, status_of}
-use Rattle.rx_top.specs.Outcome.{Answer, Answered, Ending, Ends, IsLast, Reads, ReadsSome, IsUnread, Outcome, WritesAnswer, WritesFront, admit_status_by, answer, draw_answer, edf_status, ends, fault_status, file_answer, fixed_status, input_answer, large_answer, most_input, set_answer, words_answer}
+use Rattle.rx_top.specs.Outcome.{Answer, Answered, OutcomeOf, Ends, IsLast, Reads, ReadsSome, IsUnread, Outcome, WritesAnswer, WritesFront, admit_status_by, answer, draw_answer, edf_status, ends, fault_status, file_answer, fixed_status, input_answer, large_answer, most_input, set_answer, words_answer}
 
 -- all inputs of too many bytes have one answer
 pub too_large : (of_set : System → Answer) (input : List ℕ) → most_input < length input → input_answer of_set input ≡ large_answer
@@ -63,7 +63,7 @@ words_answered a b c left None none taken nothing = record {
 }
 
 -- a drawn set is answered without a call of the source
-pub drawn_ending : (number : ℕ) (a : SourceState) (b c : SinkState) (left : Left) (r : Result Status Stop) → WritesAnswer (draw_answer drawn_ticks number) b c left r → Ending (Some (Draw number)) (ends a b) (ends a c) left r
+pub drawn_ending : (number : ℕ) (a : SourceState) (b c : SinkState) (left : Left) (r : Result Status Stop) → WritesAnswer (draw_answer drawn_ticks number) b c left r → OutcomeOf (Some (Draw number)) (ends a b) (ends a c) left r
 drawn_ending number a b c left (Ok status) gives = record { input = []; history = []; read = unread a; gives = gives }
 drawn_ending number a b c left (Err Read) gives = absurd gives
 drawn_ending number a b c left (Err Write) gives = record { input = []; history = []; read = unread a; gives = gives }
@@ -139,7 +139,7 @@ module _ (command : Option Command) where
   answered_ends before after left status told = subst IsEnd (sym told.gives.status) (answer_ends command told.history told.input)
 
   pub answered_outcome : (before after : Ends) (left : Left) (status : Status) → Answered command before after left status → Outcome command before after left status
-  answered_outcome before after left status told = subst (Ending command before after left) (sym (answered_ends before after left status told)) told
+  answered_outcome before after left status told = subst (OutcomeOf command before after left) (sym (answered_ends before after left status told)) told
 
   -- where an answer was given no call failed
   pub answered_kept : (before after : Ends) (left : Left) (status : Status) → Answered command before after left status → (after.source.failures ≡ before.source.failures) × (after.sink.failures ≡ before.sink.failures)
@@ -179,7 +179,7 @@ module _ (before after : Ends) (source : MayBeCalled before.source.failures) (si
     );
   }
 
-  pub last_stopped : (command : Option Command) (left : Left) (stop : Stop) → Ending command before after left (Err stop) → IsLast after (status_of stop)
+  pub last_stopped : (command : Option Command) (left : Left) (stop : Stop) → OutcomeOf command before after left (Err stop) → IsLast after (status_of stop)
   last_stopped command left Read told = record {
     source = (λ down. refl, λ is. told.failed.down);
     sink = (λ down. absurd (not_down before.sink.failures after.sink.failures sink told.gives.written.kept down), λ is. absurd (not_write is));

@@ -2,7 +2,7 @@
 use Rattle.std.specs.Prelude.{ℕ, ◌≡◌, ◌≢◌, ◌<◌, ◌≤◌, ◌+◌, ◌==◌, ◌↔◌, nat_le, Bool, true, false, if◌then◌else◌, List, [], ◌∷◌, length, codes, Option, Some, None, IsSome, IfSome, Result, Ok, Err}
 use Rattle.rx_io.specs.declared.status.Status.{Status}
 use Rattle.rx_io.specs.declared.status.Status.TheVariants.{Done, Adverse, Words, ReadFault, TooLarge, NotToml, BadSet, WriteFault, NoMemory, Wide, Long}
-use Rattle.rx_io.specs.Ends.{SourceState, SinkState, AreCalled}
+use Rattle.rx_io.specs.States.{SourceState, SinkState, AreCalled}
 use Rattle.rx_io.specs.Causes.{AreSteps, HasFailed, IsInput, Takes, TakesFront, TakesNothing, read_step}
 use Rattle.rx_set.specs.declared.policies.Policy.{Policy}
 use Rattle.rx_set.specs.declared.policies.Policy.TheVariants.{Rm, Dm, Edf}
@@ -183,7 +183,7 @@ abbrev pub Reads : Bool → SourceState → SourceState → List ℕ → Type 0
 Reads true before after input = IsInput most_input before after input
 Reads false before after input = IsUnread before after
 
--- whatever was read of an input
+-- what may have been read where there was no memory
 abbrev pub ReadsSome : Bool → SourceState → SourceState → Type 0
 ReadsSome true before after = IsRead before after
 ReadsSome false before after = IsUnread before after
@@ -195,7 +195,7 @@ pub record Answered (command : Option Command) (before after : Ends) (left : Lef
   pub read : Reads (reads_input command) before.source after.source input
   pub gives : WritesAll (answer command history input) before.sink after.sink left result
 
--- The source failed. The command reads its input, by steps up to the call that failed, and nothing was written or is left.
+-- The source failed. The command reads its input, which it did by steps, and nothing was written or is left.
 pub record ReadFailed (command : Option Command) (before after : Ends) (left : Left) : Type 0 where
   pub reads : reads_input command ≡ true
   pub calls : AreCalled before.source.calls after.source.calls (AreSteps read_step (most_input + 1))
@@ -216,15 +216,15 @@ pub record LacksMemory (command : Option Command) (before after : Ends) (left : 
   pub gives : WritesNothing before.sink after.sink left
 
 -- what holds where a call ends with a status, or was stopped
-abbrev pub Ending : Option Command → Ends → Ends → Left → Result Status Stop → Type 0
-Ending command before after left (Ok status) = Answered command before after left status
-Ending command before after left (Err Read) = ReadFailed command before after left
-Ending command before after left (Err Write) = WriteFailed command before after left
-Ending command before after left (Err Memory) = LacksMemory command before after left
+abbrev pub OutcomeOf : Option Command → Ends → Ends → Left → Result Status Stop → Type 0
+OutcomeOf command before after left (Ok status) = Answered command before after left status
+OutcomeOf command before after left (Err Read) = ReadFailed command before after left
+OutcomeOf command before after left (Err Write) = WriteFailed command before after left
+OutcomeOf command before after left (Err Memory) = LacksMemory command before after left
 
 -- What holds at each status.
 abbrev pub Outcome : Option Command → Ends → Ends → Left → Status → Type 0
-Outcome command before after left result = Ending command before after left (ending_of result)
+Outcome command before after left result = OutcomeOf command before after left (ending_of result)
 
 -- The latest call of the source failed exactly at `ReadFault`, and that of the sink exactly at `WriteFault`.
 pub record IsLast (after : Ends) (result : Status) : Type 0 where

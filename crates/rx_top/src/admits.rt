@@ -1,6 +1,6 @@
 //! What the admission test says of a set.
 ghost use Rattle.std.specs.Prelude.{◌≡◌, ◌≢◌, ◌≤◌, [], ◌∷◌, length, IfOk};
-ghost use Rattle.rx_io.specs.Ends.{MayBeCalled};
+ghost use Rattle.rx_io.specs.States.{MayBeCalled};
 ghost use Rattle.rx_io.specs.Causes.{Puts};
 ghost use Rattle.rx_set.specs.Valid.{IsValid};
 ghost use Rattle.rx_set.specs.Admission.{least_time};

@@ -1,7 +1,7 @@
 //! Drawing a set and running it, and writing what is told of its intervals.
 ghost use Rattle.std.specs.Prelude.{ℕ, ◌≡◌, ◌≤◌, ◌<◌, ◌+◌, ◌^◌, ◌++◌, [], ◌∷◌, length, fold, IfOk, OnOk};
 ghost use Rattle.std.specs.List.{All};
-ghost use Rattle.rx_io.specs.Ends.{MayBeCalled};
+ghost use Rattle.rx_io.specs.States.{MayBeCalled};
 ghost use Rattle.rx_io.specs.Causes.{Puts};
 ghost use Rattle.rx_ledger.specs.Counts.{AreBelow, counted, zeros};
 ghost use Rattle.rx_ledger.specs.Ledgers.{time_of};

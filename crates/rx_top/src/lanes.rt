@@ -1,6 +1,6 @@
 //! Having lanes make the operations of a set, and writing what they made.
 ghost use Rattle.std.specs.Prelude.{◌≡◌, ◌≤◌, [], ◌∷◌, ◌++◌, map, length, reverse};
-ghost use Rattle.rx_io.specs.Ends.{MayBeCalled};
+ghost use Rattle.rx_io.specs.States.{MayBeCalled};
 ghost use Rattle.rx_io.specs.Causes.{Puts};
 ghost use Rattle.rx_report.specs.LaneLines.{calls_line, entry_line};
 ghost use Rattle.rx_set.specs.System.{parts_of};

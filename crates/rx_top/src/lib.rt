@@ -5,6 +5,7 @@
 #![tactic(auto)]
 
 mod admits;
+mod answers;
 #[cfg(test)]
 mod charge_tests;
 mod draws;

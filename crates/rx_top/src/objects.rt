@@ -1,6 +1,6 @@
 //! Writing the objects as they stand after all operations.
-ghost use Rattle.std.specs.Prelude.{◌≡◌, ◌<◌, ℕ, List, [], ◌∷◌, length};
-ghost use Rattle.rx_io.specs.Ends.{MayBeCalled};
+ghost use Rattle.std.specs.Prelude.{◌≡◌, ◌<◌, List, [], ◌∷◌, length};
+ghost use Rattle.rx_io.specs.States.{MayBeCalled};
 ghost use Rattle.rx_io.specs.Causes.{Puts};
 ghost use Rattle.rx_seq.specs.declared.entries.Entry.{Entry};
 ghost use Rattle.rx_seq.specs.declared.kinds.Part.{Part};

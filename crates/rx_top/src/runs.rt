@@ -1,6 +1,6 @@
 //! Running a set, and writing its schedule.
 ghost use Rattle.std.specs.Prelude.{◌≡◌, ◌≤◌, ◌<◌, ◌+◌, ◌^◌, [], ◌∷◌, Some, length, fold, IfOk, OnOk};
-ghost use Rattle.rx_io.specs.Ends.{MayBeCalled};
+ghost use Rattle.rx_io.specs.States.{MayBeCalled};
 ghost use Rattle.rx_io.specs.Causes.{Puts};
 ghost use Rattle.rx_set.specs.Valid.{IsValid};
 ghost use Rattle.rx_ledger.specs.Counts.{AreBelow, counted, zeros};

@@ -1,6 +1,6 @@
 // What a run of the program cannot show: sources and sinks that fail midway or move few bytes a call, what is left, and
 // that served sets are never late. Whole runs are the cases of the built program.
-ghost use Rattle.rx_io.specs.Ends.{MayBeCalled};
+ghost use Rattle.rx_io.specs.States.{MayBeCalled};
 
 use super::*;
 use crate::runs::new_executive;

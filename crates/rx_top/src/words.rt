@@ -137,17 +137,14 @@ pub(crate) fn command_of(words: &[String]) -> Option<Command>
     ensures value { result ≡ command_of (map string_bytes words.now) }
     ensures limits { ForSome result IsLimited }
 {
-    if words.len() == 1 {
-        one_word(words[0].as_str().as_bytes())
-    } else if words.len() == 2 {
-        two_words(words[0].as_str().as_bytes(), words[1].as_str().as_bytes())
-    } else if words.len() == 3 {
-        three_words(
-            words[0].as_str().as_bytes(),
-            words[1].as_str().as_bytes(),
-            words[2].as_str().as_bytes(),
-        )
-    } else {
-        None
+    match words {
+        [name] => one_word(name.as_str().as_bytes()),
+        [name, number] => two_words(name.as_str().as_bytes(), number.as_str().as_bytes()),
+        [name, workers, jobs] => three_words(
+            name.as_str().as_bytes(),
+            workers.as_str().as_bytes(),
+            jobs.as_str().as_bytes(),
+        ),
+        _ => None,
     }
 }

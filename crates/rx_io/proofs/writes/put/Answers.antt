@@ -1,6 +1,6 @@
 use Rattle.std.proofs.Common.{◌<◌, ◌∙◌, length, refl, arith}
-use Rattle.rx_io.specs.Ends.{SinkState}
-use Rattle.rx_io.proofs.Puts.{put_calls, put_more, put_refused, put_within, puts_failed}
+use Rattle.rx_io.specs.States.{SinkState}
+use Rattle.rx_io.proofs.Puts.{put_calls, put_more, put_refused, put_within, puts_failed, slice_some}
 use Rattle.rx_io.proofs.writes.put.Goals as goal
 
 pub returns-in_err-at : goal.returns-in_err-at
@@ -18,6 +18,6 @@ loop-at-preserved g c =
     let inside : c.loop-at.at < length c.args.piece.now = omega (arith, c.loop-at-test.true) in record {
       within = put_within c.loop-at.at c.in_ok-at.field-0 c.args.piece.now c.loop-at.invariant.within c.in_ok-at.ensures.bound;
       bytes = put_more a b now c.loop-at.at _ c.args.piece.now inside refl c.in_ok-at.field-0 c.loop-at.invariant.bytes c.in_ok-at.ensures.bytes;
-      calls = put_calls a b now c.loop-at.at _ c.args.piece.now inside refl c.in_ok-at.field-0 c.loop-at.invariant.calls c.in_ok-at.ensures.call;
+      calls = put_calls a b now c.loop-at.at _ c.args.piece.now inside refl c.in_ok-at.field-0 (c.in_ok-at.ensures.some (slice_some c.loop-at.at c.args.piece.now inside)) c.in_ok-at.ensures.bound c.loop-at.invariant.calls c.in_ok-at.ensures.call;
       kept = c.in_ok-at.ensures.cause.kept ∙ c.loop-at.invariant.kept;
     }

@@ -1,6 +1,6 @@
 use Rattle.std.proofs.Common.{◌≡◌, ◌≤◌, ◌-◌, [], ◌∷◌, length, take}
 use Rattle.std.specs.Io.KnownBytes.{Appends}
-use Rattle.rx_io.specs.Ends.{AreCalled, moved_in}
+use Rattle.rx_io.specs.States.{AreCalled, moved_in}
 use Rattle.rx_io.specs.Causes.{ArePieces}
 use Rattle.rx_io.proofs.writes.put.Given as goal
 

@@ -2,7 +2,7 @@ use Rattle.std.proofs.Common.{[], refl, sym, subst, arith}
 use Rattle.rx_io.specs.declared.status.Status.TheVariants.{TooLarge}
 use Rattle.rx_top.specs.Outcome.{Answer, WritesAll, WritesFront, set_answer}
 use Rattle.rx_top.proofs.Endings.{too_large, writes_stopped}
-use Rattle.rx_top.proofs.tops.answer_input.Goals as goal
+use Rattle.rx_top.proofs.answers.answer_input.Goals as goal
 
 pub returns-in_err-put : goal.returns-in_err-put
 returns-in_err-put g c = (

@@ -42,7 +42,7 @@ moved_by (Err error) = 0
 abbrev pub IsCalled : {E : Type 0} → (List Transfer → Type 0) → (List Transfer → Type 0) → ℕ → Result ℕ E → Type 0
 IsCalled before after asked result = (past : List Transfer) → before past → after (record { asked = asked; moved = moved_by result } ∷ past)
 
--- the same where the number of bytes is told at `Ok` alone
+-- a call for so many bytes came after those before it; how many it moved is told at `Ok` alone
 abbrev pub MayBeTold : {E : Type 0} → (List Transfer → Type 0) → (List Transfer → Type 0) → ℕ → Result ℕ E → Type 0
 MayBeTold before after asked result = (past : List Transfer) → before past → (moved : ℕ) × after (record { asked = asked; moved = moved } ∷ past) × IfOk result (λ count. moved ≡ count)
 
@@ -51,6 +51,6 @@ abbrev pub moved_in : List Transfer → ℕ
 moved_in [] = 0
 moved_in (call ∷ past) = moved_in past + call.moved
 
--- after the calls before came some of which this holds
+-- whatever calls came before, the calls since then are a list of which this holds
 abbrev pub AreCalled : (List Transfer → Type 0) → (List Transfer → Type 0) → (List Transfer → Type 0) → Type 0
 AreCalled before after P = (past : List Transfer) → before past → (calls : List Transfer) × P calls × after (calls ++ past)
