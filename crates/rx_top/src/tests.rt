@@ -326,8 +326,8 @@ fn a_failed_write_is_the_last_call(rt: HostRuntime) -> Result<(), Fail> {
 fn each_line_is_one_call(rt: HostRuntime) -> Result<(), Fail> {
     for report in REPORTS {
         let ending = answer(&rt, rt.alloc(), &Case::new(report.words, SHARED), &NoGate)?;
-        assert_eq!(&rt; ending.status, Status::Done, "{}", report.words);
-        assert_eq!(&rt; ending.writes, report.lines, "{}", report.words);
+        assert_eq!(&rt; ending.status, Status::Done);
+        assert_eq!(&rt; ending.writes, report.lines);
     }
     Ok(())
 }
