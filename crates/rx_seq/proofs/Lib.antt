@@ -1,3 +1,4 @@
 pub mod Ordered
 pub mod Kept
+pub mod QuietCalls
 pub mod Histories

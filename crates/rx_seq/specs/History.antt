@@ -1,10 +1,11 @@
 -- Histories of calls. A list of entries is newest first, so an entry stands before those that came before it.
-use Rattle.std.specs.Prelude.{ℕ, ◌+◌, ◌==◌, ◌&&◌, Bool, true, if◌then◌else◌, List, [], ◌∷◌, get_or}
+use Rattle.std.specs.Prelude.{ℕ, ◌+◌, ◌==◌, ◌&&◌, Bool, not, if◌then◌else◌, List, [], ◌∷◌, get_or}
 use Rattle.rx_seq.specs.declared.kinds.Kind.TheVariants.{Cell}
 use Rattle.rx_seq.specs.declared.kinds.Part.{Part}
 use Rattle.rx_seq.specs.declared.calls.Call.{Call}
 use Rattle.rx_seq.specs.declared.entries.Entry.{Entry}
 use Rattle.rx_seq.specs.Table.{start_of, effect}
+use Rattle.rx_seq.specs.Quiet.{is_quiet}
 
 -- a part that stands where there is no object
 abbrev pub no_part : Part
@@ -14,9 +15,9 @@ no_part = record { kind = Cell; cap = 1 }
 abbrev pub part_at : List Part → ℕ → Part
 part_at parts object = get_or parts object no_part
 
--- whether an entry raises the tag of its object: each one does, by one
+-- whether an entry raises the tag of its object, by one: each one does that is not quiet
 abbrev pub is_loud : Entry → Bool
-is_loud entry = true
+is_loud entry = not (is_quiet entry.call entry.reply)
 
 -- the state of an object after some entries: its first state, with the effect of each entry's call on it in turn
 abbrev pub replay : List Part → ℕ → List Entry → List ℕ

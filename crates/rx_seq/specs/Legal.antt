@@ -1,4 +1,5 @@
--- Legal histories: the n-th entry on an object has the first tag plus n, and each reply is the table's.
+-- Legal histories: each entry's tag is the first one plus the loud entries of its object up to it, and each reply is the
+-- table's.
 use Rattle.std.specs.Prelude.{ℕ, ◌≡◌, ◌+◌, ◌==◌, if◌then◌else◌, List, [], ◌∷◌}
 use Rattle.rx_seq.specs.declared.kinds.Part.{Part}
 use Rattle.rx_seq.specs.declared.entries.Entry.{Entry}

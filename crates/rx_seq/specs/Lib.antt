@@ -1,4 +1,5 @@
 pub mod Table
+pub mod Quiet
 pub mod History
 pub mod Legal
 pub mod States

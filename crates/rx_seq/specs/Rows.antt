@@ -1,4 +1,4 @@
--- Worked rows of the table of the sequential objects: what a call makes of a state, and its reply.
+-- Worked rows of the table of the sequential objects: what a call makes of a state, its reply, and whether it is quiet.
 use Rattle.std.specs.Prelude.{ℕ, ◌≡◌, true, false, refl, [], ◌∷◌}
 use Rattle.rx_seq.specs.declared.kinds.Kind.TheVariants.{Cell, Queue, Registers, List as Ordered}
 use Rattle.rx_seq.specs.declared.kinds.Part.{Part}
@@ -7,6 +7,7 @@ use Rattle.rx_seq.specs.declared.calls.Call.{Call}
 use Rattle.rx_seq.specs.declared.calls.Call.TheVariants.{Get, Set, Add, Swap, Put, Take, Insert, Remove, Has, Read, Shift, Multi}
 use Rattle.rx_seq.specs.declared.replies.Reply.TheVariants.{Done, Over, Differs, Full, Empty, Added, Present, Removed, Absent, Yes, No, Short}
 use Rattle.rx_seq.specs.Table.{start_of, fits_part, effect, answers}
+use Rattle.rx_seq.specs.Quiet.{is_quiet}
 
 abbrev cell : Part
 cell = record { kind = Cell; cap = 1 }
@@ -189,3 +190,87 @@ fits_far_shift = refl
 
 pub fits_far_multi : fits_part registers (Multi 1 (change 4 0 5 ∷ change 0 0 0 ∷ change 0 0 0 ∷ change 0 0 0 ∷ [])) ≡ false
 fits_far_multi = refl
+
+-- a call that looks is quiet, whatever it is told
+pub quiet_get : is_quiet Get (Done 7) ≡ true
+quiet_get = refl
+
+pub quiet_read : is_quiet (Read 2) (Done 7) ≡ true
+quiet_read = refl
+
+pub quiet_has : is_quiet (Has 3) Yes ≡ true
+quiet_has = refl
+
+pub quiet_has_not : is_quiet (Has 3) No ≡ true
+quiet_has_not = refl
+
+-- so is one that adds or moves nothing, or writes what must be there
+pub quiet_add : is_quiet (Add 0) (Done 7) ≡ true
+quiet_add = refl
+
+pub quiet_swap : is_quiet (Swap 5 5) (Done 5) ≡ true
+quiet_swap = refl
+
+pub quiet_shift : is_quiet (Shift 3 0 0) (Done 13) ≡ true
+quiet_shift = refl
+
+pub quiet_multi : is_quiet (Multi 2 (change 0 5 5 ∷ change 2 7 7 ∷ change 0 0 0 ∷ change 0 0 0 ∷ [])) (Done 2) ≡ true
+quiet_multi = refl
+
+-- and each call whose reply tells of no change
+pub quiet_over : is_quiet (Add 1) Over ≡ true
+quiet_over = refl
+
+pub quiet_differs : is_quiet (Swap 5 6) (Differs 0) ≡ true
+quiet_differs = refl
+
+pub quiet_put_on_full : is_quiet (Put 6) Full ≡ true
+quiet_put_on_full = refl
+
+pub quiet_take_of_empty : is_quiet Take Empty ≡ true
+quiet_take_of_empty = refl
+
+pub quiet_insert_again : is_quiet (Insert 3) Present ≡ true
+quiet_insert_again = refl
+
+pub quiet_insert_on_full : is_quiet (Insert 4) Full ≡ true
+quiet_insert_on_full = refl
+
+pub quiet_remove_again : is_quiet (Remove 3) Absent ≡ true
+quiet_remove_again = refl
+
+pub quiet_short : is_quiet (Shift 3 0 1) (Short 0) ≡ true
+quiet_short = refl
+
+pub quiet_multi_differs : is_quiet (all_four (change 0 5 1) (change 1 6 1) (change 2 9 1) (change 3 8 1)) (Differs 7) ≡ true
+quiet_multi_differs = refl
+
+-- a set is loud, even of the value that is there
+pub loud_set : is_quiet (Set 7) (Done 7) ≡ false
+loud_set = refl
+
+-- and so is each call that changes something
+pub loud_add : is_quiet (Add 1) (Done 8) ≡ false
+loud_add = refl
+
+pub loud_swap : is_quiet (Swap 5 6) (Done 6) ≡ false
+loud_swap = refl
+
+pub loud_put : is_quiet (Put 5) (Done 1) ≡ false
+loud_put = refl
+
+pub loud_take : is_quiet Take (Done 5) ≡ false
+loud_take = refl
+
+pub loud_insert : is_quiet (Insert 3) Added ≡ false
+loud_insert = refl
+
+pub loud_remove : is_quiet (Remove 3) Removed ≡ false
+loud_remove = refl
+
+pub loud_shift : is_quiet (Shift 3 0 8) (Done 13) ≡ false
+loud_shift = refl
+
+-- one row that changes its register makes a transaction loud
+pub loud_multi : is_quiet (Multi 2 (change 0 5 5 ∷ change 2 7 8 ∷ change 0 0 0 ∷ change 0 0 0 ∷ [])) (Done 2) ≡ false
+loud_multi = refl

@@ -1,13 +1,9 @@
 -- The states of a part, and the entries whose calls fit.
-use Rattle.std.specs.Prelude.{ℕ, ◌≡◌, ◌<◌, ◌≤◌, Bool, true, false, List, length, slice_index}
+use Rattle.std.specs.Prelude.{ℕ, ◌≡◌, ◌<◌, ◌≤◌, true, List, length, slice_index}
 use Rattle.std.specs.List.{All, AllPairs}
 use Rattle.rx_seq.specs.declared.kinds.Kind.{Kind}
 use Rattle.rx_seq.specs.declared.kinds.Kind.TheVariants.{Cell, Queue, Registers, List as Ordered}
 use Rattle.rx_seq.specs.declared.kinds.Part.{Part}
-use Rattle.rx_seq.specs.declared.calls.Call.{Call}
-use Rattle.rx_seq.specs.declared.calls.Call.TheVariants.{Get, Has, Read}
-use Rattle.rx_seq.specs.declared.replies.Reply.{Reply}
-use Rattle.rx_seq.specs.declared.replies.Reply.TheVariants.{Over, Differs, Full, Empty, Present, Absent, Yes, No, Short}
 use Rattle.rx_seq.specs.declared.entries.Entry.{Entry}
 use Rattle.rx_seq.specs.Table.{most_cell, most_value, fits_part}
 use Rattle.rx_seq.specs.History.{part_at}
@@ -53,23 +49,3 @@ IsState part state = IsStateBy part.kind part.cap state
 pub record IsFitting (parts : List Part) (entry : Entry) : Type 0 where
   pub exists : entry.object < length parts
   pub fits : fits_part (part_at parts entry.object) entry.call ≡ true
-
--- a call that only looks
-abbrev pub only_looks : Call → Bool
-only_looks Get = true
-only_looks (Has k) = true
-only_looks (Read i) = true
-only_looks _ = false
-
--- a reply that tells of no change
-abbrev pub tells_no_change : Reply → Bool
-tells_no_change Over = true
-tells_no_change (Differs v) = true
-tells_no_change Full = true
-tells_no_change Empty = true
-tells_no_change Present = true
-tells_no_change Absent = true
-tells_no_change Yes = true
-tells_no_change No = true
-tells_no_change (Short v) = true
-tells_no_change _ = false

@@ -4,6 +4,7 @@
 
 mod calls;
 mod cells;
+mod changes;
 mod entries;
 mod kinds;
 pub mod laws;
@@ -15,6 +16,7 @@ mod registers;
 mod replies;
 
 pub use calls::{Call, Row};
+pub use changes::{quiet, still};
 pub use entries::Entry;
 pub use kinds::{Kind, Part};
 pub use memory::NoMemory;

@@ -178,3 +178,57 @@ fn registers(rt: HostRuntime) {
         assert!(rt; !fits(part, call), "{call:?}");
     }
 }
+
+#[test]
+fn quiet_calls(rt: HostRuntime) {
+    let same = multi(
+        2,
+        [
+            change(0, 5, 5),
+            change(2, 7, 7),
+            Row::default(),
+            Row::default(),
+        ],
+    );
+    let stills = [
+        Call::Get,
+        Call::Add { v: 0 },
+        Call::Swap { old: 5, new: 5 },
+        Call::Has { k: 3 },
+        Call::Read { i: 2 },
+        Call::Shift {
+            from: 3,
+            to: 0,
+            n: 0,
+        },
+        same,
+    ];
+    for call in stills {
+        assert!(rt; still(call), "{call:?}");
+        assert!(rt; quiet(call, Reply::Done { v: 5 }), "{call:?}");
+    }
+    let louds = [
+        Call::Set { v: 5 },
+        Call::Add { v: 1 },
+        Call::Swap { old: 5, new: 6 },
+        Call::Put { v: 5 },
+        Call::Take,
+        multi(
+            2,
+            [
+                change(0, 5, 5),
+                change(2, 7, 8),
+                Row::default(),
+                Row::default(),
+            ],
+        ),
+    ];
+    for call in louds {
+        assert!(rt; !still(call), "{call:?}");
+        assert!(rt; !quiet(call, Reply::Done { v: 5 }), "{call:?}");
+        assert!(rt; quiet(call, Reply::Over), "{call:?}");
+    }
+    assert!(rt; !quiet(Call::Insert { k: 3 }, Reply::Added));
+    assert!(rt; !quiet(Call::Remove { k: 3 }, Reply::Removed));
+    assert!(rt; quiet(Call::Put { v: 6 }, Reply::Full));
+}
