@@ -19,7 +19,7 @@ use Rattle.rx_shape.specs.Words.{low_of}
 use Rattle.rx_shape.specs.Places.{times, read_run}
 use Rattle.rx_shape.specs.Forms.{block, form_of, live, decoded, IsVersion, IsBlock}
 use Rattle.rx_shape.specs.Versions.{HasRead, IsStale}
-use Rattle.rx_shape.specs.Settled.{HasTaken, Answers, Stays}
+use Rattle.rx_shape.specs.Settled.{Answers, Stays}
 use Rattle.rx_shape.specs.Walks.{Begins, HaveNone, IsKept, IsOpen, IsWhole, IsStep, numbers_of, at_run, want_as, next_want}
 use Rattle.rx_shape.proofs.Times.{times_run, length-read_run}
 use Rattle.rx_shape.proofs.BlockForm.{live_block, decoded_block, formed_block, run_at}
@@ -182,9 +182,6 @@ module _ (home : Home) (form : form_of home.part.kind ≡ block) (root : ℕ) (w
   pub answers_whole : Answers home call root (at_run (low_of root) words) (answers now reply)
   answers_whole memory has = settled_whole home form root words call whole memory has ∙ ap (λ (s : List ℕ). effect home.part s call) (sym is) ∙ made
 
-  pub stays_whole : now ≡ numbers_of words → Stays home call root (at_run (low_of root) words) reply
+  pub stays_whole : (effect home.part state call).state ≡ state → Stays home call root (at_run (low_of root) words) reply
   stays_whole same memory has =
-      answers_whole memory has ∙ ap (λ (s : List ℕ). answers s reply) (same ∙ sym (whole_is home.part words (decoded home root memory) whole (begins home form root words memory has.version has.read)))
-
-  pub changes_whole : (now ≡ numbers_of words → ⊥) → (memory : List ℕ) → HasTaken home root (at_run (low_of root) words) memory → now ≡ decoded home root memory → ⊥
-  changes_whole differs memory has same = differs (same ∙ whole_is home.part words (decoded home root memory) whole (begins home form root words memory has.version has.read))
+      answers_whole memory has ∙ ap (λ (s : List ℕ). answers s reply) (makes ∙ same ∙ is ∙ sym (whole_is home.part words (decoded home root memory) whole (begins home form root words memory has.version has.read)))

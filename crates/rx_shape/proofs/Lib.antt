@@ -2,6 +2,7 @@ pub mod Times
 pub mod Numbering
 mod Ends
 pub mod Local
+pub mod Quiet
 pub mod InlinePlans
 pub mod BlockForm
 pub mod Starts

@@ -1,10 +1,10 @@
 -- Plans of a block.
-use Rattle.std.proofs.Common.{◌≡◌, ◌≢◌, ℕ, zero, suc, ◌+◌, ◌<◌, ◌≤◌, List, [], ◌∷◌, ◌++◌, length, set, take, refl, sym, ap, ◌∙◌, subst, arith}
+use Rattle.std.proofs.Common.{◌≡◌, ◌≢◌, ℕ, zero, suc, ◌+◌, ◌<◌, ◌≤◌, List, [], ◌∷◌, ◌++◌, length, set, take, true, false, refl, sym, ap, ◌∙◌, subst, arith}
 use Rattle.std.specs.Prelude.{slice_index}
-use Rattle.std.proofs.lemmas.Grind.{same_number_lists}
 use Rattle.rx_seq.specs.declared.calls.Call.{Call}
 use Rattle.rx_seq.specs.declared.replies.Reply.{Reply}
 use Rattle.rx_seq.specs.Table.{Effect, answers, effect}
+use Rattle.rx_seq.specs.Quiet.{is_quiet, raised}
 use Rattle.rx_seq.specs.States.{IsState}
 use Rattle.rx_shape.specs.declared.homes.Home.{Home}
 use Rattle.rx_shape.specs.declared.plans.Taken.{Taken}
@@ -17,11 +17,10 @@ use Rattle.rx_shape.specs.Versions.{HasRead, HasWritten, NotWritten, traded}
 use Rattle.rx_shape.specs.Settled.{HasTaken, Answers, Stays}
 use Rattle.rx_shape.specs.Asks.{WritesOnce, EachBelow, IsPlanned}
 use Rattle.rx_shape.specs.Moves.{number_writes, block_writes, block_pairs}
-use Rattle.rx_shape.specs.Walks.{numbers_of}
-use Rattle.rx_shape.proofs.Times.{times_at, length-run, run_once, length-read_run}
+use Rattle.rx_shape.proofs.Times.{times_at, length-run, run_once}
 use Rattle.rx_shape.proofs.Local.{same_form}
 use Rattle.rx_shape.proofs.BlockForm.{live_block, decoded_block, block_is_formed, block_is_stock, stock_block, size_block}
-use Rattle.rx_shape.proofs.BlockWants.{number_at}
+use Rattle.rx_shape.proofs.Quiet.{raised_quiet, raised_loud}
 
 -- what is written
 pub writes_more : (own : ℕ) (numbers : List ℕ) (n : ℕ) → n < length numbers → number_writes own (take (n + 1) numbers) ≡ number_writes own (take n numbers) ++ record { own = own + n; value = slice_index numbers n } ∷ []
@@ -104,19 +103,20 @@ run_index first zero n below = absurd (omega arith)
 run_index first (suc count) zero below = omega arith
 run_index first (suc count) (suc n) below = let r = run_index (first + 1) count n (omega arith) in omega arith
 
--- a plan that leaves the block as it is
-pub stay_planned : (home : Home) (call : Call) (root : ℕ) (taken : List Taken) (own : List ℕ) (new : ℕ) (reply : Reply) → IsStock home own → new ≡ pack (tag_of root + 1) (low_of root) → Stays home call root taken reply → IsPlanned home call root taken own new [] [] reply
-stay_planned home call root taken own new reply stock is stays =
-    let low : low_of new ≡ low_of root = ap low_of is ∙ omega arith in
+-- a plan that leaves the block as it is, of a call that is quiet where there is a version
+pub stay_planned : (home : Home) (call : Call) (root : ℕ) (taken : List Taken) (own : List ℕ) (new : ℕ) (reply : Reply) → IsStock home own → new ≡ root → Stays home call root taken reply → ((words : List ℕ) → HasTaken home root taken words → is_quiet call (effect home.part (decoded home root words) call).reply ≡ true) → IsPlanned home call root taken own new [] [] reply
+stay_planned home call root taken own new reply stock is stays quiet =
     let at : (words : List ℕ) → IsVersion home root words → HasRead (live home root words) words taken → effect home.part (decoded home root words) call ≡ answers (decoded home root words) reply =
     λ words version read. stays words (record { version = version; read = read }) in
     record {
       plans = record {
-        tag = ap tag_of is ∙ omega arith;
         works = λ words version read apart written.
-            let same = same_form home root new words low in record {
+            let same = same_form home root new words (ap low_of is) in
+            let none = raised_quiet call (effect home.part (decoded home root words) call).reply (quiet words (record { version = version; read = read })) in record {
               version = same.2 version;
               state = same.1 ∙ sym (ap (λ (e : Effect). e.state) (at words version read));
+              tag = ap tag_of is ∙ omega arith;
+              quiet = λ _. (is, refl);
               places = λ p. ap (λ (ps : List ℕ). times p ps + times p own) same.0;
               stock = stock;
             };
@@ -124,12 +124,8 @@ stay_planned home call root taken own new reply stock is stays =
       once = tt;
       below = tt;
       says = λ words version read. sym (ap (λ (e : Effect). e.reply) (at words version read));
-      quiet = λ words version read equal. (refl, refl, low);
+      quiet = λ _. (is, refl, refl);
     }
-
--- no version that has the words taken stands for this state
-abbrev pub Changes : Home → ℕ → List Taken → List ℕ → Type 0
-Changes home root taken state = (words : List ℕ) → HasTaken home root taken words → state ≡ decoded home root words → ⊥
 
 module _ (home : Home) (form : form_of home.part.kind ≡ block) (own : List ℕ) (stock : IsStock home own) (ranges : (place : ℕ) → 0 < times place own → InRange home place) where
   pub own_run : own ≡ run (slice_index own 0) (suc home.part.cap)
@@ -169,8 +165,8 @@ module _ (home : Home) (form : form_of home.part.kind ≡ block) (own : List ℕ
     }
 
   -- a plan that moves the state into the own block
-  pub move_planned : (call : Call) (root : ℕ) (taken : List Taken) (new : ℕ) (state : List ℕ) (reply : Reply) → home.first + home.count ≤ 16777216 → length state ≤ home.part.cap → IsState home.part state → new ≡ pack (tag_of root + 1) (slice_index own 0) → Answers home call root taken (answers state reply) → Changes home root taken state → IsPlanned home call root taken own new (block_writes state) (block_pairs 0 (low_of root) (length own)) reply
-  move_planned call root taken new state reply places few is root_is answer changes =
+  pub move_planned : (call : Call) (root : ℕ) (taken : List Taken) (new : ℕ) (state : List ℕ) (reply : Reply) → home.first + home.count ≤ 16777216 → length state ≤ home.part.cap → IsState home.part state → new ≡ pack (tag_of root + 1) (slice_index own 0) → Answers home call root taken (answers state reply) → is_quiet call reply ≡ false → IsPlanned home call root taken own new (block_writes state) (block_pairs 0 (low_of root) (length own)) reply
+  move_planned call root taken new state reply places few is root_is answer loud =
       let base = own_first places in
       let low : low_of new ≡ slice_index own 0 = ap low_of root_is ∙ omega arith in
       let size = size_block home form in
@@ -178,12 +174,17 @@ module _ (home : Home) (form : form_of home.part.kind ≡ block) (own : List ℕ
       let swapped : traded own (block_pairs 0 (low_of root) (length own)) ≡ run (low_of root) (suc home.part.cap) = traded_block own (low_of root) ∙ ap (run (low_of root)) many in
       let at : (words : List ℕ) → IsVersion home root words → HasRead (live home root words) words taken → effect home.part (decoded home root words) call ≡ answers state reply =
       λ words version read. answer words (record { version = version; read = read }) in
+      let reply_at : (words : List ℕ) → IsVersion home root words → HasRead (live home root words) words taken → reply ≡ (effect home.part (decoded home root words) call).reply =
+      λ words version read. sym (ap (λ (e : Effect). e.reply) (at words version read)) in
+      let more = raised_loud call reply loud in
+      let tag : tag_of new ≡ tag_of root + raised call reply = ap tag_of root_is ∙ omega arith in
       record {
         plans = record {
-          tag = ap tag_of root_is ∙ omega arith;
           works = λ words version read apart written. record {
             version = version_new new low state words few written is;
             state = decoded_new new low state words few written ∙ sym (ap (λ (e : Effect). e.state) (at words version read));
+            tag = tag ∙ ap (λ (r : Reply). tag_of root + raised call r) (reply_at words version read);
+            quiet = λ quiet. let same = ap (is_quiet call) (reply_at words version read) in cc;
             places = λ p.
                 let a = ap (times p) (live_new new low state words few written) in
                 let b = ap (times p) (swapped ∙ sym (live_block home form root words)) in omega arith;
@@ -192,8 +193,8 @@ module _ (home : Home) (form : form_of home.part.kind ≡ block) (own : List ℕ
         };
         once = writes_once (stock_size home.part) state (omega arith);
         below = pairs_below (stock_size home.part) 0 (low_of root) (length own) (omega arith);
-        says = λ words version read. sym (ap (λ (e : Effect). e.reply) (at words version read));
-        quiet = λ words version read equal. absurd (changes words (record { version = version; read = read }) (sym (ap (λ (e : Effect). e.state) (at words version read)) ∙ equal));
+        says = reply_at;
+        quiet = λ quiet. cc;
       }
 
 length-take_few : (n : ℕ) (numbers : List ℕ) → length (take n numbers) ≤ n
@@ -214,22 +215,6 @@ writes_grow numbers n value writes now below is so_far new =
     ∙ ap (λ (k : ℕ). record { own = 0; value = length numbers } ∷ number_writes 1 (take n numbers) ++ record { own = k; value = slice_index numbers n } ∷ []) e
     ∙ sym (ap (λ (ws : List Write). record { own = 0; value = length numbers } ∷ ws) (writes_more 1 numbers n below))
 
--- the state has the numbers of the words
-pub same_numbers : (words state : List ℕ) → length state ≡ slice_index words 0 → ((n : ℕ) → n < length state → slice_index state n ≡ slice_index words (n + 1)) → state ≡ numbers_of words
-same_numbers words state many each =
-    same_number_lists state (numbers_of words) (many ∙ sym (length-read_run words 1 (slice_index words 0)))
-    (λ n below. let e : n + 1 ≡ suc n = omega arith in each n below ∙ ap (slice_index words) e ∙ sym (number_at words (slice_index words 0) n (omega arith)))
-
 -- the own block has room, and can be named by a root
 pub own_fits : (home : Home) (form : form_of home.part.kind ≡ block) (own : List ℕ) → IsStock home own → ((place : ℕ) → 0 < times place own → InRange home place) → home.part.cap ≤ 64 → home.first + home.count ≤ 16777216 → (0 < length own) × (length own ≤ 65) × (slice_index own 0 < 16777216)
 own_fits home form own stock ranges few places = let many = own_many home form own stock ranges in (omega arith, omega arith, own_first home form own stock ranges places)
-
--- a length or a number that differs
-pub other_length : (words state : List ℕ) → length state ≢ slice_index words 0 → state ≡ numbers_of words → ⊥
-other_length words state differs same = differs (ap length same ∙ length-read_run words 1 (slice_index words 0))
-
-pub other_number : (words state : List ℕ) (n : ℕ) → n < length state → slice_index state n ≢ slice_index words (n + 1) → state ≡ numbers_of words → ⊥
-other_number words state n below differs same =
-    let many = ap length same ∙ length-read_run words 1 (slice_index words 0) in
-    let e : n + 1 ≡ suc n = omega arith in
-    differs (ap (λ (numbers : List ℕ). slice_index numbers n) same ∙ number_at words (slice_index words 0) n (omega arith) ∙ sym (ap (slice_index words) e))

@@ -1,15 +1,15 @@
 -- What a shape wants to read, and what it plans.
-use Rattle.std.specs.Prelude.{ℕ, ◌≡◌, ◌+◌, ◌<◌, List, [], ◌∷◌, ◌++◌, length}
+use Rattle.std.specs.Prelude.{ℕ, ◌≡◌, ◌+◌, ◌<◌, true, List, [], ◌∷◌, ◌++◌, length}
 use Rattle.rx_seq.specs.declared.calls.Call.{Call}
 use Rattle.rx_seq.specs.declared.replies.Reply.{Reply}
 use Rattle.rx_seq.specs.Table.{effect}
+use Rattle.rx_seq.specs.Quiet.{is_quiet}
 use Rattle.rx_shape.specs.declared.homes.Home.{Home}
 use Rattle.rx_shape.specs.declared.plans.Taken.{Taken}
 use Rattle.rx_shape.specs.declared.plans.Write.{Write}
 use Rattle.rx_shape.specs.declared.plans.Pair.{Pair}
 use Rattle.rx_shape.specs.declared.plans.Want.{Want}
 use Rattle.rx_shape.specs.declared.plans.Want.TheVariants.{Read, Ready, Stale}
-use Rattle.rx_shape.specs.Words.{low_of}
 use Rattle.rx_shape.specs.Forms.{stock_size, InRange, live, decoded, IsVersion}
 use Rattle.rx_shape.specs.Versions.{HasRead, NotWritten, Plans, IsStale}
 use Rattle.rx_shape.specs.Settled.{IsSettled}
@@ -32,12 +32,11 @@ EachBelow count [] = Unit {0}
 EachBelow count (pair ∷ pairs) = (pair.own < count) × EachBelow count pairs
 
 -- what a shape's plan is: it makes the call of each version that has the words taken, writes under each own number at
--- most once, trades own places alone, and has the reply of every such version. Where the call leaves the state equal,
--- nothing is written or traded, and the new root names the same place
+-- most once, trades own places alone, and has the reply of every such version. Where the call is quiet, nothing is
+-- written or traded, and the new root is the root that was there
 pub record IsPlanned (home : Home) (call : Call) (root : ℕ) (taken : List Taken) (own : List ℕ) (new : ℕ) (writes : List Write) (pairs : List Pair) (reply : Reply) : Type 0 where
   pub plans : Plans home call root taken own writes new pairs
   pub once : WritesOnce (stock_size home.part) [] writes
   pub below : EachBelow (stock_size home.part) pairs
   pub says : (words : List ℕ) → IsVersion home root words → HasRead (live home root words) words taken → reply ≡ (effect home.part (decoded home root words) call).reply
-  pub quiet : (words : List ℕ) → IsVersion home root words → HasRead (live home root words) words taken → (effect home.part (decoded home root words) call).state ≡ decoded home root words
-      → (writes ≡ []) × (pairs ≡ []) × (low_of new ≡ low_of root)
+  pub quiet : is_quiet call reply ≡ true → (new ≡ root) × (writes ≡ []) × (pairs ≡ [])

@@ -1,7 +1,8 @@
 -- What an attempt reads, writes and trades, and what that makes of a version.
-use Rattle.std.specs.Prelude.{ℕ, ◌≡◌, ◌+◌, ◌<◌, ◌≤◌, List, [], ◌∷◌, length, slice_index, slice_set}
+use Rattle.std.specs.Prelude.{ℕ, ◌≡◌, ◌+◌, ◌<◌, ◌≤◌, true, List, [], ◌∷◌, length, slice_index, slice_set}
 use Rattle.rx_seq.specs.declared.calls.Call.{Call}
 use Rattle.rx_seq.specs.Table.{start_of, effect}
+use Rattle.rx_seq.specs.Quiet.{is_quiet, raised}
 use Rattle.rx_shape.specs.declared.homes.Home.{Home}
 use Rattle.rx_shape.specs.declared.plans.Taken.{Taken}
 use Rattle.rx_shape.specs.declared.plans.Write.{Write}
@@ -30,18 +31,19 @@ abbrev pub traded : List ℕ → List Pair → List ℕ
 traded own [] = own
 traded own (pair ∷ pairs) = traded (slice_set own pair.own pair.place) pairs
 
--- the new root stands for the object after the call, and the live places and the own ones together are the same places
--- as before
+-- the new root stands for the object after the call: its tag is the next one if the call was loud, and where it was
+-- quiet it is the root that was there and nothing is traded. The live places and the own ones together are the same
+-- places as before
 pub record Makes (home : Home) (call : Call) (root : ℕ) (own : List ℕ) (new : ℕ) (pairs : List Pair) (words : List ℕ) : Type 0 where
   pub version : IsVersion home new words
   pub state : decoded home new words ≡ (effect home.part (decoded home root words) call).state
+  pub tag : tag_of new ≡ tag_of root + raised call (effect home.part (decoded home root words) call).reply
+  pub quiet : is_quiet call (effect home.part (decoded home root words) call).reply ≡ true → (new ≡ root) × (pairs ≡ [])
   pub places : (place : ℕ) → times place (live home new words) + times place (traded own pairs) ≡ times place (live home root words) + times place own
   pub stock : IsStock home (traded own pairs)
 
--- a plan for each version with this root that has the words that were read: the new root, whose tag is the next one,
--- makes the call of it
+-- a plan for each version with this root that has the words that were read: the new root makes the call of it
 pub record Plans (home : Home) (call : Call) (root : ℕ) (reads : List Taken) (own : List ℕ) (writes : List Write) (new : ℕ) (pairs : List Pair) : Type 0 where
-  pub tag : tag_of new ≡ tag_of root + 1
   pub works : (words : List ℕ) → IsVersion home root words → HasRead (live home root words) words reads
       → ((place : ℕ) → times place (live home root words) + times place own ≤ 1) → HasWritten words own writes → Makes home call root own new pairs words
 

@@ -8,13 +8,14 @@ ghost use Rattle.std.specs.Prelude.{◌≡◌, ◌≤◌, ◌+◌, true, [], len
 
 use crate::homes::Home;
 use crate::layouts::read_block;
-use crate::moves::{is_same, move_block, stay};
+use crate::moves::{move_block, stay};
 use crate::plans::{Plan, Want};
 use crate::roots::low_of;
 use crate::shapes::Shape;
 use crate::steps::{Step, step_of};
 use arrayvec::ArrayVec;
-use rx_seq::{Call, Part, Reply, State, apply};
+use rx_seq::laws::quiet_calls_stay;
+use rx_seq::{Call, Part, Reply, State, apply, quiet};
 
 /// An attempt on a queue, an ordered list or registers in block form. It reads the length and then the numbers in
 /// order. It stops before the end only where this is said:
@@ -26,8 +27,9 @@ use rx_seq::{Call, Part, Reply, State, apply};
 /// - `Multi` stops where it has the registers of its rows up to the first row that differs. Where no row differs it
 ///   reads all registers, even if each row's new value is its old one.
 ///
-/// Words that no state of the part has end it with `Stale` as soon as they are read. A plan that leaves the state equal
-/// writes and trades nothing. Any other plan writes the next state into the own block, and trades the two blocks.
+/// Words that no state of the part has end it with `Stale` as soon as they are read. The plan of a quiet call keeps the
+/// root, and writes and trades nothing. That of a loud call writes the next state into the own block, trades the two
+/// blocks, and raises the tag.
 ///
 /// `start`, `want` and `take` take constant time. `plan` takes constant time after a walk that stopped early, and else
 /// time that grows with the capacity. Nothing takes memory.
@@ -102,6 +104,7 @@ impl Shape for Blocks {
     }
 
     fn plan(&self, root: u64, own: &ArrayVec<u32, 65>, out: &mut Plan) -> Reply {
+        quiet_calls_stay();
         if let Step::Kept { reply } = self.step {
             stay(root, out);
             return reply;
@@ -110,7 +113,7 @@ impl Shape for Blocks {
         let mut state = State::new();
         read_block(words, 0, &mut state);
         let reply = apply(self.home.part, &mut state, self.call);
-        if is_same(words, state.as_slice()) {
+        if quiet(self.call, reply) {
             stay(root, out);
         } else {
             move_block(root, own.as_slice(), state.as_slice(), out);

@@ -10,9 +10,11 @@ use crate::plans::{Plan, Want};
 use crate::roots::{low_of, pack, tag_of};
 use crate::shapes::Shape;
 use arrayvec::ArrayVec;
-use rx_seq::{Call, Part, Reply};
+use rx_seq::laws::quiet_calls_stay;
+use rx_seq::{Call, Part, Reply, quiet};
 
-/// An attempt on a cell. The root has the value, so it reads nothing, writes nothing and trades nothing. Each call takes
+/// An attempt on a cell. The root has the value, so it reads nothing, writes nothing and trades nothing. The plan of a
+/// quiet call keeps the root, and that of a loud one has the next tag and the value after the call. Each call takes
 /// constant time.
 #[derive(Debug, Drop)]
 pub struct Inline {
@@ -49,8 +51,13 @@ impl Shape for Inline {
     fn take(&mut self, _word: u64) {}
 
     fn plan(&self, root: u64, _own: &ArrayVec<u32, 65>, out: &mut Plan) -> Reply {
+        quiet_calls_stay();
         let (value, reply) = call_cell(low_of(root), self.call);
-        out.root = pack(tag_of(root) + 1, value);
+        out.root = if quiet(self.call, reply) {
+            root
+        } else {
+            pack(tag_of(root) + 1, value)
+        };
         out.writes.clear();
         out.trade.pairs.clear();
         reply

@@ -1,28 +1,25 @@
 // Plans of a block: it stays as it is, or its next state moves into the own block.
 ghost use Rattle.rx_shape.specs.Moves.{block_pairs, block_writes};
-ghost use Rattle.rx_shape.specs.Places.{read_run};
-ghost use Rattle.rx_shape.specs.Walks.{IsWhole, numbers_of};
 ghost use Rattle.rx_shape.specs.Words.{low_of as low_in, pack as packed, tag_of as tag_in};
-ghost use Rattle.std.specs.Prelude.{ℕ, suc, ◌≡◌, ◌+◌, ◌<◌, ◌≤◌, ◌^◌, true, false, [], length, slice_index};
+ghost use Rattle.std.specs.Prelude.{◌≡◌, ◌+◌, ◌<◌, ◌≤◌, ◌^◌, [], length, slice_index};
 
 use crate::plans::{Pair, Plan, Write};
 use crate::roots::{low_of, pack, tag_of};
 use arrayvec::ArrayVec;
 
-/// The plan of a call that leaves the state equal: the same place with the tag one higher. It takes constant time.
+/// The plan of a quiet call: the root that was there, and nothing is written or traded. It takes constant time.
 pub(crate) fn stay(root: u64, out: &mut Plan)
-    requires { tag_in root + 1 < 2 ^ 40 }
-    ensures root { out.new.root ≡ packed (tag_in root + 1) (low_in root) }
+    ensures root { out.new.root ≡ root }
     ensures writes { out.new.writes.items ≡ [] }
     ensures pairs { out.new.trade.pairs.items ≡ [] }
 {
-    out.root = pack(tag_of(root) + 1, low_of(root));
+    out.root = root;
     out.writes.clear();
     out.trade.pairs.clear();
 }
 
-/// The plan of a call that makes this state: it is written into the own block, which trades places with the old one.
-/// It takes time that grows with the state and the block.
+/// The plan of a loud call that makes this state: it is written into the own block, which trades places with the old
+/// one, and the tag is the next one. It takes time that grows with the state and the block.
 pub(crate) fn move_block(root: u64, own: &[u32], state: &[u32], out: &mut Plan)
     requires tag { tag_in root + 1 < 2 ^ 40 }
     requires some { 0 < length own.now }
@@ -69,21 +66,4 @@ fn trade_block(place: u32, count: u32, pairs: &mut ArrayVec<Pair, 65>)
             place: place + own,
         });
     }
-}
-
-/// Whether a state has the numbers of a block that was read whole.
-pub(crate) fn is_same(words: &[u64], state: &[u32]) -> bool
-    requires { length words.now ≡ suc (slice_index words.now 0) }
-    ensures yes { result ≡ true → state.now ≡ numbers_of words.now }
-    ensures no { result ≡ false → state.now ≡ numbers_of words.now → ⊥ }
-{
-    if state.len() as u64 != words[0] {
-        return false;
-    }
-    for number in 0..state.len() {
-        if u64::from(state[number]) != words[number + 1] {
-            return false;
-        }
-    }
-    true
 }

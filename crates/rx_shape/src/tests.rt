@@ -42,22 +42,6 @@ fn words_of_a_root(rt: HostRuntime) {
     assert_eq!(rt; low_of(16_777_217), 1);
 }
 
-#[test]
-fn attempt_on_a_cell(rt: HostRuntime) {
-    let part = Part {
-        kind: Kind::Cell,
-        cap: 1,
-    };
-    let mut plan = no_plan();
-    let shape = Inline::start(part, Call::Add { v: 3 }, 0, 0);
-    assert_eq!(rt; shape.want(16_777_220), Want::Ready);
-    let reply = shape.plan(16_777_220, &ArrayVec::new(), &mut plan);
-    assert_eq!(rt; reply, Reply::Done { v: 7 });
-    assert_eq!(rt; plan.root, 33_554_439);
-    assert_eq!(rt; plan.writes.len(), 0);
-    assert_eq!(rt; plan.trade.pairs.len(), 0);
-}
-
 fn no_plan() -> Plan {
     Plan {
         root: 0,
@@ -66,6 +50,59 @@ fn no_plan() -> Plan {
             pairs: ArrayVec::new(),
         },
     }
+}
+
+/// An attempt on a cell with tag 1 and value 4. It tells the reply, or `None` where the call is none of a cell.
+fn attempt_on_a_cell(call: Call, plan: &mut Plan) -> Option<Reply> {
+    let cell = Part {
+        kind: Kind::Cell,
+        cap: 1,
+    };
+    if !fits(cell, call) {
+        return None;
+    }
+    let shape = Inline::start(cell, call, 0, 0);
+    let root = pack(1, 4);
+    match shape.want(root) {
+        Want::Ready => Some(shape.plan(root, &ArrayVec::new(), plan)),
+        _ => None,
+    }
+}
+
+#[test]
+fn loud_calls_of_a_cell(rt: HostRuntime) {
+    let mut plan = no_plan();
+    let found = attempt_on_a_cell(Call::Add { v: 3 }, &mut plan);
+    assert_eq!(rt; found, Some(Reply::Done { v: 7 }));
+    assert_eq!(rt; plan.root, 33_554_439);
+    assert_eq!(rt; plan.writes.len(), 0);
+    assert_eq!(rt; plan.trade.pairs.len(), 0);
+    let found = attempt_on_a_cell(Call::Swap { old: 4, new: 5 }, &mut plan);
+    assert_eq!(rt; found, Some(Reply::Done { v: 5 }));
+    assert_eq!(rt; plan.root, pack(2, 5));
+    let found = attempt_on_a_cell(Call::Set { v: 4 }, &mut plan);
+    assert_eq!(rt; found, Some(Reply::Done { v: 4 }));
+    assert_eq!(rt; plan.root, pack(2, 4));
+}
+
+#[test]
+fn quiet_calls_of_a_cell(rt: HostRuntime) {
+    let mut plan = no_plan();
+    let found = attempt_on_a_cell(Call::Get, &mut plan);
+    assert_eq!(rt; found, Some(Reply::Done { v: 4 }));
+    assert_eq!(rt; plan.root, pack(1, 4));
+    let mut plan = no_plan();
+    let found = attempt_on_a_cell(Call::Add { v: 0 }, &mut plan);
+    assert_eq!(rt; found, Some(Reply::Done { v: 4 }));
+    assert_eq!(rt; plan.root, pack(1, 4));
+    let mut plan = no_plan();
+    let found = attempt_on_a_cell(Call::Swap { old: 4, new: 4 }, &mut plan);
+    assert_eq!(rt; found, Some(Reply::Done { v: 4 }));
+    assert_eq!(rt; plan.root, pack(1, 4));
+    let mut plan = no_plan();
+    let found = attempt_on_a_cell(Call::Swap { old: 5, new: 6 }, &mut plan);
+    assert_eq!(rt; found, Some(Reply::Differs { v: 4 }));
+    assert_eq!(rt; plan.root, pack(1, 4));
 }
 
 /// So many places that follow each other.
@@ -137,7 +174,7 @@ fn attempts_on_a_queue(rt: HostRuntime) {
     assert_eq!(rt; plan.trade.pairs.len(), 3);
     let found = attempt(queue, put, &[2, 5, 6], &mut plan);
     assert_eq!(rt; found, (1, Some(Reply::Full)));
-    assert_eq!(rt; plan.root, pack(8, 10));
+    assert_eq!(rt; plan.root, pack(7, 10));
     assert_eq!(rt; plan.writes.len(), 0);
     assert_eq!(rt; plan.trade.pairs.len(), 0);
     let found = attempt(queue, Call::Take, &[2, 5, 6], &mut plan);
@@ -205,6 +242,7 @@ fn attempts_on_registers(rt: HostRuntime) {
     assert_eq!(rt; found, (4, Some(Reply::Over)));
     let found = attempt(registers, shift(0, 1, 0), &words, &mut plan);
     assert_eq!(rt; found, (3, Some(Reply::Done { v: 6 })));
+    assert_eq!(rt; plan.root, pack(7, 10));
     assert_eq!(rt; plan.writes.len(), 0);
     let row = |i, old, new| Row { i, old, new };
     let multi = |old| Call::Multi {
@@ -215,6 +253,7 @@ fn attempts_on_registers(rt: HostRuntime) {
     assert_eq!(rt; found, (3, Some(Reply::Differs { v: 6 })));
     let found = attempt(registers, multi(6), &words, &mut plan);
     assert_eq!(rt; found, (4, Some(Reply::Done { v: 2 })));
+    assert_eq!(rt; plan.root, pack(8, 14));
     assert!(rt; writes(&plan, &[3, 1, 2, 4_294_967_295]));
     assert_eq!(rt;
         attempt(registers, multi(6), &[2, 5, 6], &mut plan),
@@ -240,7 +279,7 @@ fn multi_of_old_values(rt: HostRuntime) {
     let mut plan = no_plan();
     let found = attempt(registers, call, &[2, 5, 6], &mut plan);
     assert_eq!(rt; found, (3, Some(Reply::Done { v: 1 })));
-    assert_eq!(rt; plan.root, pack(8, 10));
+    assert_eq!(rt; plan.root, pack(7, 10));
     assert_eq!(rt; plan.writes.len(), 0);
     assert_eq!(rt; plan.trade.pairs.len(), 0);
 }
