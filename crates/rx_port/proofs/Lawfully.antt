@@ -1,7 +1,7 @@
 -- Each event from a lawful core gives a lawful core.
-use Rattle.std.proofs.Common.{◌≡◌, ◌≢◌, ℕ, suc, ◌+◌, ◌<◌, ◌≤◌, ◌^◌, Bool, true, false, cond, List, [], ◌∷◌, length, set, refl, sym, ap, ◌∙◌, subst, ⊎_elim, arith}
-use Rattle.std.specs.Prelude.{◌==◌, slice_index, Option, Some, None, IfSome, option_map}
-use Rattle.std.proofs.lemmas.Bool.{eqb-true}
+use Rattle.std.proofs.Common.{◌≡◌, ◌≢◌, ◌⊎◌, inl, inr, ℕ, ◌+◌, ◌<◌, ◌≤◌, ◌^◌, Bool, true, false, cond, List, [], ◌∷◌, length, set, refl, sym, ap, ◌∙◌, subst, ⊎_elim, arith}
+use Rattle.std.specs.Prelude.{not, ◌==◌, slice_index, Option, Some, None, IfSome, option_map}
+use Rattle.std.proofs.lemmas.Bool.{cases_Bool, eqb-true}
 use Rattle.std.proofs.lemmas.List.{set-get_or, get_or-set_same, get_or-set_other, length-set}
 use mathlib.Core.Option.{some}
 use mathlib.Core.Logic.{dite}
@@ -9,6 +9,8 @@ use native.Mathlib.Decide.{ℕ_discrete}
 use lib.ListN.{get_elem?}
 use Rattle.rx_seq.specs.declared.calls.Call.{Call}
 use Rattle.rx_seq.specs.declared.entries.Entry.{Entry}
+use Rattle.rx_seq.specs.declared.replies.Reply.{Reply}
+use Rattle.rx_seq.specs.Quiet.{is_quiet, raised}
 use Rattle.std.proofs.lemmas.List.Elements.{All-cons}
 use Rattle.rx_seq.specs.Table.{fits_part, effect}
 use Rattle.rx_seq.specs.History.{part_at, replay, tag_of as count_loud}
@@ -315,8 +317,34 @@ module _ (l : Layout) (words : List ℕ) (views : List View) (es : List Entry) (
   makes : Makes (home l a.object) a.call a.expected (own_of v a.object) new pairs words
   makes = plan.works words old_version (t.fresh (sym is)) own_once_at t.stands
 
+  reply : Reply
+  reply = (effect (part_at l.parts a.object) (replay l.parts a.object es) a.call).reply
+
+  reply_is : (effect (part_at l.parts a.object) (decoded (home l a.object) a.expected words) a.call).reply ≡ reply
+  unfolding reply
+  reply_is = ap (λ (r : ℕ). (effect (part_at l.parts a.object) (decoded (home l a.object) r words) a.call).reply) (sym is) ∙ ap (λ (state : List ℕ). (effect (part_at l.parts a.object) state a.call).reply) (h.states a.object t.exists)
+
   tag_is : tag_of a.expected ≡ tag_after l es a.object
   tag_is = sym (ap tag_of is) ∙ h.tags a.object t.exists
+
+  -- the tag is the next one or, where the call is quiet, the words are as before
+  counted : count_loud a.object (e ∷ es) ≡ count_loud a.object es + raised a.call reply
+  unfolding reply
+  counted = count_here l es i a.object a.call
+
+  tag_more : tag_of new ≡ tag_of a.expected + raised a.call reply
+  tag_more = makes.tag ∙ ap (λ (x : Reply). tag_of a.expected + raised a.call x) reply_is
+
+  next_or_still : (raised a.call reply ≡ 1) ⊎ ((raised a.call reply ≡ 0) × (after_words ≡ words))
+  next_or_still = elim (cases_Bool (is_quiet a.call reply)) [
+    | inl quiet ↦
+        let same : new ≡ root_of words a.object = (makes.quiet (ap (is_quiet a.call) reply_is ∙ quiet)).0 ∙ sym is in
+        inr (ap (λ (b : Bool). cond (not b) 1 0) quiet, ap (set words (a.object + 1)) same ∙ set-get_or words (a.object + 1) 0)
+    | inr loud ↦ inl (ap (λ (b : Bool). cond (not b) 1 0) loud)
+  ]
+
+  at_most_one : raised a.call reply ≤ 1
+  at_most_one = ⊎_elim (λ (loud : raised a.call reply ≡ 1). omega arith) (λ (still : (raised a.call reply ≡ 0) × (after_words ≡ words)). let z = still.0 in omega arith) next_or_still
 
   -- a word that is no root of the object is as before
   same_word : (p : ℕ) → p ≢ a.object + 1 → slice_index after_words p ≡ slice_index words p
@@ -336,7 +364,7 @@ module _ (l : Layout) (words : List ℕ) (views : List View) (es : List Entry) (
 
   one_tag : (q : ℕ) → q < length l.parts → Dec (q ≡ a.object) → (tag_of (root_of after_words q) ≡ tag_after l (e ∷ es) q) × (tag_after l (e ∷ es) q < 2 ^ 40)
   one_tag q there (yes d) = subst (λ (x : ℕ). (tag_of (root_of after_words x) ≡ tag_after l (e ∷ es) x) × (tag_after l (e ∷ es) x < 2 ^ 40)) (sym d)
-      (let more = count_here l es i a.object a.call in let n = ap tag_of new_root in let g = plan.tag in let k = tag_is in (omega arith, omega arith))
+      (let more = counted in let n = ap tag_of new_root in let g = tag_more in let k = tag_is in let one = at_most_one in (omega arith, omega arith))
   one_tag q there (no ne) = let more = count_there l es i a.object a.call q ne in let r = ap tag_of (other_root q ne) in let s = h.tags q there in let b = h.below q there in (omega arith, omega arith)
 
   one_state : (q : ℕ) → q < length l.parts → Dec (q ≡ a.object) → IsVersion (home l q) (root_of after_words q) after_words × (decoded (home l q) (root_of after_words q) after_words ≡ replay l.parts q (e ∷ es))
@@ -385,15 +413,21 @@ module _ (l : Layout) (words : List ℕ) (views : List View) (es : List Entry) (
   -- another seat's open attempt
   other_attempt : (u : View) (b : Attempt) → ((z p : ℕ) → z < length l.parts → 0 < times p (own_of u z) → InRange (home l z) p) → IsAttempt l words es u.own b → Dec (b.object ≡ a.object) → IsAttempt l after_words (e ∷ es) u.own b
   other_attempt u b own s (yes d) =
-      let more : count_loud b.object (e ∷ es) ≡ suc (count_loud b.object es) = subst (λ (x : ℕ). count_loud x (e ∷ es) ≡ suc (count_loud x es)) (sym d) (count_here l es i a.object a.call) in
+      let more : count_loud b.object (e ∷ es) ≡ count_loud b.object es + raised a.call reply = subst (λ (x : ℕ). count_loud x (e ∷ es) ≡ count_loud x es + raised a.call reply) (sym d) counted in
       let most = s.at_most in
       let late : tag_of (root_of after_words b.object) ≡ tag_after l (e ∷ es) b.object = (one_tag b.object s.exists (yes d)).0 in
       record {
         exists = s.exists;
         fits = s.fits;
         at_most = omega arith;
-        same = λ q. absurd (omega arith);
-        fresh = λ q. let q' = ap tag_of q in absurd (omega arith);
+        same = λ q. ⊎_elim
+            (λ (loud : raised a.call reply ≡ 1). absurd (omega arith))
+            (λ (still : (raised a.call reply ≡ 0) × (after_words ≡ words)). s.same (let z = still.0 in omega arith) ∙ ap (λ (xs : List ℕ). root_of xs b.object) (sym still.1))
+            next_or_still;
+        fresh = λ q. ⊎_elim
+            (λ (loud : raised a.call reply ≡ 1). let q' = ap tag_of q in absurd (omega arith))
+            (λ (still : (raised a.call reply ≡ 0) × (after_words ≡ words)). subst (λ (xs : List ℕ). HasRead (live (home l b.object) b.expected xs) xs b.reads) (sym still.1) (s.fresh (q ∙ ap (λ (xs : List ℕ). root_of xs b.object) still.1)))
+            next_or_still;
         stands = written_kept words after_words (own_of u b.object) b.writes (λ p in_own. same_word p (λ x. not_root l a.object b.object p t.exists (own b.object p s.exists in_own) x)) s.stands;
       }
   other_attempt u b own s (no ne) = let more = count_there l es i a.object a.call b.object ne in record {

@@ -17,7 +17,7 @@ use Rattle.rx_port.specs.declared.views.Known.{Known}
 use Rattle.rx_port.specs.declared.views.View.{View}
 use Rattle.rx_port.specs.declared.views.Core.{Core}
 
--- the tag of an object after a history: the tag at the start, and one for each entry on the object
+-- the tag of an object after a history: the tag at the start, and one for each loud entry on the object
 abbrev pub tag_after : Layout → List Entry → ℕ → ℕ
 tag_after layout history object = layout.first + count_loud object history
 

@@ -1,9 +1,9 @@
 -- Worked rows of two seats that add 1 to one cell, where the exchange of one loses to the other's: a win, a loss and
--- a win after it, what a winner and a loser own and know, and an attempt on a queue.
+-- a win after it, a look, what a winner and a loser own and know, and an attempt on a queue.
 use Rattle.std.specs.Prelude.{ℕ, ◌≡◌, ◌==◌, if◌then◌else◌, refl, true, false, List, [], ◌∷◌, Some, None}
 use Rattle.rx_seq.specs.declared.kinds.Kind.TheVariants.{Cell, Queue}
 use Rattle.rx_seq.specs.declared.calls.Call.{Call}
-use Rattle.rx_seq.specs.declared.calls.Call.TheVariants.{Add, Put}
+use Rattle.rx_seq.specs.declared.calls.Call.TheVariants.{Get, Add, Put}
 use Rattle.rx_seq.specs.declared.replies.Reply.TheVariants.{Done}
 use Rattle.rx_seq.specs.declared.entries.Entry.{Entry}
 use Rattle.rx_shape.specs.declared.plans.Pair.{Pair}
@@ -115,6 +115,16 @@ again_history = refl
 
 pub again_counts : two_won.counts ≡ Some (record { loads = 3; stores = 0; exchanges = 3 })
 again_counts = refl
+
+-- a look at the cell has the tag that is there, and raises none
+abbrev look : Entry
+look = entry_for small after_two 1 0 Get
+
+pub look_entry : look ≡ record { caller = 1; index = 2; object = 0; call = Get; reply = Done 2; tag = 2 }
+look_entry = refl
+
+pub look_tag : tag_after small (look ∷ after_two) 0 ≡ 2
+look_tag = refl
 
 -- a seat that keeps histories sees the others' entries, and has its own
 abbrev knows_nothing : Known

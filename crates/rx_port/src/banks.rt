@@ -85,7 +85,7 @@ impl Bank {
         self.counts
     }
 
-    /// The version tag of an object that is there: the first tag and the number of entries on it. It takes constant time.
+    /// The version tag of an object that is there: the first tag and the number of loud entries on it. It takes constant time.
     pub fn tag(&self, object: u32) -> u64
         requires { object < length self.now.layout.parts }
         ensures root { result ≡ tag_in (root_of self.now.core.words object) }

@@ -38,9 +38,9 @@ pub fn bank_stays_lawful()
     ensures decide { (layout : Layout) (old now : Core) (before after : View) (attempt : Attempt) (new word : ℕ) (pairs : List Pair) → IsPlain old → IsDecision layout before attempt new pairs → Decided layout (λ core. core ≡ old) (λ core. core ≡ now) before after attempt new pairs word → Moves layout old now before.number after (λ history. history_after (word == attempt.expected) (entry_for layout history before.number attempt.object attempt.call) history) }
 {}
 
-/// The tag of a root is the first tag and the number of entries on the object. So an open attempt still finds the root
-/// that it expects exactly where no entry came on its object since, and that root then stands for the replay. Where no
-/// version with the expected root has the words that the attempt read, that root is no longer there.
+/// The tag of a root is the first tag and the number of loud entries on the object. So an open attempt still finds the
+/// root that it expects exactly where no loud entry came on its object since, and that root then stands for the replay.
+/// Where no version with the expected root has the words that the attempt read, that root is no longer there.
 pub fn attempts_lose_to_entries()
     ensures tag { (layout : Layout) (core : Core) (history : List Entry) (object : ℕ) → Lawful layout core.words core.views history → object < length layout.parts → tag_of (root_of core.words object) ≡ tag_after layout history object }
     ensures attempt { (layout : Layout) (core : Core) (history : List Entry) (seat : ℕ) (attempt : Attempt) → Lawful layout core.words core.views history → (view_at core seat).attempt ≡ Some attempt → IsAttempt layout core.words history (view_at core seat).own attempt }

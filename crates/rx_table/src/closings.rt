@@ -156,7 +156,7 @@ impl Closed {
         &self.layout
     }
 
-    /// The version tag of an object that is there: the first tag and the number of entries on it. It takes constant time.
+    /// The version tag of an object that is there: the first tag and the number of loud entries on it. It takes constant time.
     pub fn tag(&self, object: u32) -> u64
         requires { object < length self.now.layout.parts }
         ensures { result ≡ tag_after self.now.layout self.now.history object }
