@@ -1,11 +1,12 @@
 -- A step of a machine on a bank.
-use Rattle.std.proofs.Common.{◌≡◌, ℕ, ◌<◌, ◌⊎◌, inl, inr, ⊎_elim, Bool, true, false, List, length, refl, sym, ap, ◌∙◌, subst, arith}
+use Rattle.std.proofs.Common.{◌≡◌, ℕ, ◌+◌, ◌<◌, ◌⊎◌, inl, inr, ⊎_elim, Bool, true, false, List, length, refl, sym, ap, ◌∙◌, subst, arith}
 use Rattle.std.specs.Prelude.{Option, Some, None, option_map, ◌==◌}
 use Rattle.std.proofs.lemmas.Bool.{eq-eqb, ne_eqb}
 use Rattle.rx_seq.specs.declared.calls.Call.{Call}
 use Rattle.rx_seq.specs.declared.entries.Entry.{Entry}
 use Rattle.rx_seq.specs.declared.replies.Reply.{Reply}
-use Rattle.rx_seq.specs.History.{part_at, replay}
+use Rattle.rx_seq.specs.Quiet.{raised}
+use Rattle.rx_seq.specs.History.{part_at, replay, tag_of as count_loud}
 use Rattle.rx_seq.specs.Table.{effect}
 use Rattle.rx_shape.specs.Words.{tag_of}
 use Rattle.rx_shape.specs.Layout.{Layout, root_of}
@@ -26,7 +27,10 @@ same_entry : (l : Layout) (core : Core) (object : ℕ) → object < length l.par
 same_entry l core object there es fs h k number seat call =
     let state : replay l.parts object es ≡ replay l.parts object fs = sym (h.states object there) ∙ k.states object there in
     let tag : tag_after l es object ≡ tag_after l fs object = sym (h.tags object there) ∙ k.tags object there in
-    (ap (λ s. (effect (part_at l.parts object) s call).reply) state, omega arith)
+    let reply : (entry_for l es number object call).reply ≡ (entry_for l fs seat object call).reply = ap (λ s. (effect (part_at l.parts object) s call).reply) state in
+    let raise : ℕ = raised call (entry_for l fs seat object call).reply in
+    let next : l.first + (count_loud object es + raise) ≡ l.first + (count_loud object fs + raise) = omega (arith, tag) in
+    (reply, ap (λ (r : Reply). l.first + (count_loud object es + raised call r)) reply ∙ next)
 
 none_amid : (o : Option Progress) (old now : Option Counts) → o ≡ None → now ≡ option_map one_load old → AmidCounts o old now
 none_amid o old now e h = subst (λ x. AmidCounts x old now) (sym e) h

@@ -1,16 +1,18 @@
 -- The last step of an attempt.
-use Rattle.std.proofs.Common.{◌≡◌, ℕ, ◌+◌, ◌<◌, ◌≢◌, inl, inr, length, refl, sym, ap, ◌∙◌, subst, arith, take, true, cond, set}
+use Rattle.std.proofs.Common.{◌≡◌, ℕ, ◌+◌, ◌<◌, ◌≤◌, ◌≢◌, inl, inr, length, refl, sym, ap, ◌∙◌, subst, arith, take, true, cond, set}
 use Rattle.std.specs.Prelude.{Some, ◌==◌, slice_index}
 use Rattle.std.proofs.lemmas.List.{set-get_or}
 use Rattle.std.proofs.lemmas.Bool.{ne_eqb}
 use mathlib.Core.Logic.{dite}
 use native.Mathlib.Decide.{ℕ_discrete}
-use Rattle.rx_seq.specs.History.{part_at, replay}
+use Rattle.rx_seq.specs.Quiet.{raised}
+use Rattle.rx_seq.specs.History.{part_at, replay, tag_of as count_loud}
 use Rattle.rx_seq.specs.Table.{effect}
 use Rattle.rx_shape.specs.Words.{tag_of}
+use Rattle.rx_shape.specs.Places.{times}
 use Rattle.rx_shape.specs.Forms.{stock_size, IsVersion, live, decoded}
 use Rattle.rx_shape.specs.Layout.{Layout, home, root_of}
-use Rattle.rx_shape.specs.Versions.{HasRead, Plans, IsStale}
+use Rattle.rx_shape.specs.Versions.{HasRead, Makes, Plans, IsStale}
 use Rattle.rx_shape.specs.Asks.{IsPlanned, EachBelow}
 use Rattle.rx_port.specs.declared.views.Attempt.{Attempt}
 use Rattle.rx_port.specs.declared.views.Core.{Core}
@@ -19,6 +21,7 @@ use Rattle.rx_port.specs.Core.{own_of, tag_after, entry_for}
 use Rattle.rx_port.specs.Lawful.{IsAttempt}
 use Rattle.rx_port.specs.Events.{Decided, IsPlanOf, IsHopeless, IsDecision, IsReady}
 use Rattle.rx_port.proofs.Lawfully.{attempt_here}
+use Rattle.rx_port.proofs.Placing.{placed_at}
 use Rattle.rx_machine.specs.declared.steps.Step.TheVariants.{Won, Lost}
 use Rattle.rx_machine.specs.declared.works.Stage.TheVariants.{Writing, Waiting}
 use Rattle.rx_machine.specs.declared.works.Work.{Work}
@@ -100,11 +103,24 @@ module _ (l : Layout) (v : View) (work : Work) (h : IsGoing l v work) (none : Ha
           subst (λ x. IsPlanned x work.call work.root (any_taken work.shape work.root) (own_of v work.object) work.plan.root work.plan.writes.items work.plan.trade.pairs.items work.reply) home_is (going_planned l v work h is_planned) in
           planned.says d.core.words version fresh ∙ ap (λ s. (effect (part_at l.parts work.object) s work.call).reply) state
 
+      -- no place is live and owned at once
+      apart : (place : ℕ) → times place (live (home l work.object) work.root d.core.words) + times place (own_of v work.object) ≤ 1
+      apart place = subst (λ r. times place (live (home l work.object) r d.core.words) + times place (own_of v work.object) ≤ 1) (sym root_here)
+          (let owned = placed_at l work.object place d.core.views v.number v d.found.here in let once = d.found.lawful.places work.object place there in omega arith)
+
+      makes : Makes (home l work.object) work.call work.root (own_of v work.object) work.plan.root work.plan.trade.pairs.items d.core.words
+      makes = (decision_planned is_planned).plans.works d.core.words version fresh apart is_attempt.stands
+
+      abbrev raise : ℕ
+      raise = raised work.call (effect (part_at l.parts work.object) (replay l.parts work.object d.history) work.call).reply
+
+      -- the new root has the tag of the entry: the next one if the call was loud, else the one that was there
       pub won_tag : tag_of work.plan.root ≡ (entry_for l d.history v.number work.object work.call).tag
       won_tag =
-          let new : tag_of work.plan.root ≡ tag_of work.root + 1 = (going_planned l v work h is_planned).plans.tag in
+          let new : tag_of work.plan.root ≡ tag_of work.root + raise = makes.tag ∙ ap (λ s. tag_of work.root + raised work.call (effect (part_at l.parts work.object) s work.call).reply) state in
           let old : tag_of work.root ≡ tag_after l d.history work.object = ap tag_of root_here ∙ d.found.lawful.tags work.object there in
-          omega arith
+          let next : tag_after l d.history work.object + raise ≡ l.first + (count_loud work.object d.history + raise) = omega arith in
+          new ∙ ap (λ n. n + raise) old ∙ next
 
       pub won_fresh : HasRead (live (home l work.object) found d.core.words) d.core.words (any_taken work.shape work.root)
       won_fresh = subst (λ r. HasRead (live (home l work.object) r d.core.words) d.core.words (any_taken work.shape work.root)) (sym same) fresh

@@ -44,9 +44,9 @@ over_position = refl
 
 -- a win adds its entry to the history, and no other step does
 abbrev made : Entry
-made = record { caller = 0; index = 1; object = 1; call = Take; reply = Empty; tag = 1 }
+made = record { caller = 0; index = 1; object = 1; call = Take; reply = Empty; tag = 0 }
 
-pub win_adds : history_by (Won Empty 1) made [] ≡ made ∷ []
+pub win_adds : history_by (Won Empty 0) made [] ≡ made ∷ []
 win_adds = refl
 
 pub loss_adds_none : history_by (Lost 0 16777217) made [] ≡ []

@@ -9,7 +9,8 @@ pub enum Step {
     Going,
     /// It made no memory event, and the attempt goes on.
     Idle,
-    /// Its exchange found the root that the attempt expected: the call is made, with this reply and the object's new tag.
+    /// Its exchange found the root that the attempt expected: the call is made, with this reply and the object's tag after
+    /// it.
     Won { reply: Reply, tag: u64 },
     /// Its exchange found another root word, and nothing has changed: the word that the attempt expected, and the one
     /// that it found. The next step begins another attempt.

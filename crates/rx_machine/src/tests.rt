@@ -169,7 +169,7 @@ fn attempts_of_each_kind(rt: HostRuntime) -> Result<(), Fail> {
         tag,
     };
     assert_eq!(rt; cell.call(Call::Set { v: 5 }), Some((1, 0, won(5, 8))));
-    assert_eq!(rt; cell.call(get), Some((1, 0, won(5, 9))));
+    assert_eq!(rt; cell.call(get), Some((1, 0, won(5, 8))));
     let take = Call::Take;
     let mut queue = match both_on(rt.alloc(), part(Kind::Queue, 1), 0, take, take) {
         Ok(Some(two)) => two,
@@ -189,7 +189,7 @@ fn attempts_of_each_kind(rt: HostRuntime) -> Result<(), Fail> {
     assert_eq!(rt; list.call(Call::Insert { k: 3 }), Some((4, 5, added)));
     let yes = Step::Won {
         reply: Reply::Yes,
-        tag: 2,
+        tag: 1,
     };
     assert_eq!(rt; list.call(has), Some((3, 6, yes)));
     let read = Call::Read { i: 0 };
@@ -240,7 +240,41 @@ fn passed_idle_steps(rt: HostRuntime) -> Result<(), Fail> {
     Ok(())
 }
 
-// A root with the last tag ends the operation at once.
+// A call that changes nothing wins with the tag that was there, and spoils no other attempt. It is spoiled by one that
+// changes something.
+#[test]
+fn quiet_call(rt: HostRuntime) -> Result<(), Fail> {
+    let add = Call::Add { v: 1 };
+    let mut two = match both_on(rt.alloc(), part(Kind::Cell, 1), 0, add, Call::Get) {
+        Ok(Some(two)) => two,
+        _ => return Err("no memory".into()),
+    };
+    let won = |v, tag| Some(Step::Won {
+        reply: Reply::Done { v },
+        tag,
+    });
+    assert_eq!(rt; two.step_first(), Some(Step::Going));
+    assert_eq!(rt; two.step_second(), Some(Step::Going));
+    assert_eq!(rt; two.step_second(), won(0, 0));
+    assert_eq!(rt; two.step_first(), won(1, 1));
+    let mut two = match both_on(rt.alloc(), part(Kind::Cell, 1), 0, add, Call::Get) {
+        Ok(Some(two)) => two,
+        _ => return Err("no memory".into()),
+    };
+    assert_eq!(rt; two.step_second(), Some(Step::Going));
+    assert_eq!(rt; two.step_first(), Some(Step::Going));
+    assert_eq!(rt; two.step_first(), won(1, 1));
+    let lost = Step::Lost {
+        expected: 0,
+        found: pack(1, 1),
+    };
+    assert_eq!(rt; two.step_second(), Some(lost));
+    assert_eq!(rt; two.step_second(), Some(Step::Going));
+    assert_eq!(rt; two.step_second(), won(1, 1));
+    Ok(())
+}
+
+// A root with the last tag ends the operation at once. A call that changes nothing does not bring it about.
 #[test]
 fn last_tag(rt: HostRuntime) -> Result<(), Fail> {
     let take = Call::Take;
@@ -249,11 +283,11 @@ fn last_tag(rt: HostRuntime) -> Result<(), Fail> {
         Ok(Some(two)) => two,
         _ => return Err("no memory".into()),
     };
-    let empty = Step::Won {
-        reply: Reply::Empty,
-        tag: last,
-    };
+    let won = |reply, tag| Step::Won { reply, tag };
+    let empty = won(Reply::Empty, last - 1);
     assert_eq!(rt; two.call(take), Some((2, 9, empty)));
+    let put = won(Reply::Done { v: 1 }, last);
+    assert_eq!(rt; two.call(Call::Put { v: 7 }), Some((4, 7, put)));
     assert_eq!(rt; two.call(take), Some((0, 0, Step::Spent { tag: last })));
     assert_eq!(rt; two.step_second(), Some(Step::Spent { tag: last }));
     assert_eq!(rt; two.step_second(), None);

@@ -256,7 +256,7 @@ won_from system object first (suc n) h = elim (dec_le n h.at) [
     later_than : (a b : ℕ) → a < b → nat_lt a b ≡ true
     later_than a b h = grind (arith, nat_tests)
 
--- an attempt is lost where one on its object won in between, and only there
+-- an attempt is lost where one on its object won in between, and raised its tag, and only there
 pub lost_spoiled : (system : System) (n : ℕ) (job : Job) (object : ℕ) (outcome : Option Entry) → slot_at system n ≡ Decide job object outcome → outcome ≡ None → IsSpoiled system object (so_far system job n).first n
 lost_spoiled system n job object outcome e none = won_at system object (so_far system job n).first n ((decision_is system n job object outcome e).lost none)
 

@@ -376,7 +376,7 @@ module _ (system : System) (now : ℕ) (mine : Job) (s : State) (objects : Objec
       calm_first : wins_on object (slot_at system s.first) ≡ false
       calm_first = ap (wins_on object) (begun_is some).begins
 
-      -- the root is still there exactly where no attempt won since
+      -- the root is still there exactly where no attempt won since with an entry that raised the tag
       pub calm_where : tag_in root ≡ tag_after objects.bank.layout (history (slots system now)) object → won_after object s.first (slots system now) ≡ false
       calm_where e = not_true (won_after object s.first (slots system now)) (λ won.
           let more = spoiled_more system object s.first now won in let tag = tag_here (tag_in root) e in let was = root_tag in absurd (omega arith))
@@ -447,11 +447,11 @@ module _ (system : System) (now : ℕ) (mine : Job) (s : State) (objects : Objec
     -- what is told of it
     pub reply_told : (reply : Reply) (tag : ℕ) → s.made + 1 ≡ attempt_cost system object → won_after object s.first (slots system now) ≡ false
         → reply ≡ (effect (part_at objects.bank.layout.parts object) (replay objects.bank.layout.parts object (history (slots system now))) call).reply
-        → tag ≡ tag_after objects.bank.layout (history (slots system now)) object + 1
+        → tag ≡ (entry_for objects.bank.layout (history (slots system now)) mine.task object call).tag
         → Event.Reply now s.first mine (s.complete + 1) reply tag ∷ [] ≡ decision system (slots system now) (slot_at system now)
     reply_told reply tag last calm says is_tag =
         let entry : Entry = entry_after (parts_of system) (history (slots system now)) mine.task object call in
-        let counted : entry.tag ≡ tag = omega (arith, tag_here (tag_after objects.bank.layout (history (slots system now)) object) refl, wins_tags object (slots system now)) in
+        let counted : entry.tag ≡ tag = ap (λ (e : Entry). e.tag) (sym entry_is) ∙ sym is_tag in
         sym (
         ap (decision system (slots system now)) (won_slot last calm)
         ∙ ap (λ (n : ℕ). let p = progress system mine (slots system now) in Event.Reply n p.first mine (p.complete + 1) entry.reply entry.tag ∷ []) (slots_count system now)
@@ -629,10 +629,7 @@ module _ (system : System) (now : ℕ) (mine : Job) (s : State) (objects : Objec
           → Event.Reply now s.first mine (s.complete + 1) reply tag ∷ [] ≡ decision system (slots system now) (slot_at system now)
       wins_told reply tag e stepped =
           let says = stepped.says (history (slots system now)) is.stands.lawful in
-          reply_told was.object was.call taken.asks reply tag last_here (calm_here e) says.0 (omega (arith, says.1, entry_tag))
-        where
-          entry_tag : (entry_for objects.bank.layout (history (slots system now)) mine.task was.object was.call).tag ≡ tag_after objects.bank.layout (history (slots system now)) was.object + 1
-          entry_tag = omega arith
+          reply_told was.object was.call taken.asks reply tag last_here (calm_here e) says.0 says.1
 
       pub ticked_loses : (expected : ℕ) → tag_in d.progress.expected < tag_in found → Stepped objects.bank.layout objects.bank.core new.bank.core mine.task (view_at new.bank.core seat) was next (Step.Lost expected found) → HasTicked system now mine s Lost objects new
       ticked_loses expected higher stepped =

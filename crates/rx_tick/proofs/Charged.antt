@@ -139,7 +139,7 @@ preempted_next system n job valid had unfinished other = by_owner (who system (s
       record { before = n; follows = refl; had = had; unfinished = unfinished; has = e; other = λ f. other (e ∙ ap Some (sym f)) },
     )
 
--- where another attempt on the object won since the first slot of what an unfinished job has in hand, the job was preempted in between
+-- where another attempt on the object won, and raised its tag, since the first slot of what an unfinished job has in hand, the job was preempted in between
 pub preempted_since : (system : System) (n : ℕ) (job : Job) (first object : ℕ) → IsValid system → IsHeld system n job first → finished_before system job n ≡ false → IsSpoiled system object first n
     → (at : ℕ) × (by : Job) × (at < n) × IsFirstPreemption system first at job by × IsHeld system at job first
 preempted_since system n job first object valid has unfinished spoiled = by_gap (first_gap system job (spoiled.at - first) first mine other)

@@ -33,7 +33,7 @@ pub not_true : (b : Bool) → (b ≡ true → ⊥) → b ≡ false
 not_true true h = absurd (h refl)
 not_true false h = refl
 
--- where an attempt won in between there are more wins, and else as many
+-- where one of the wins that raise the tag came in between there are more, and else as many
 pub spoiled_more : (system : System) (object first n : ℕ) → won_after object first (slots system n) ≡ true → wins object (slots system first) < wins object (slots system n)
 spoiled_more system object first n h =
     let spoiled = won_at system object first n h in

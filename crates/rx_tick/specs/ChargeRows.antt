@@ -6,7 +6,7 @@ use Rattle.rx_ledger.specs.Intervals.{any_job, retries, preemptions, releases}
 use Rattle.rx_tick.specs.Events.{events}
 use Rattle.rx_tick.specs.Laws.{so_far, IsPreemption}
 use Rattle.rx_tick.specs.Charges.{IsHeld, of_rank_to, of_rank_below}
-use Rattle.rx_tick.specs.Rows.{job, retried, nested, two_releases}
+use Rattle.rx_tick.specs.Rows.{job, retried, quiet_winner, nested, two_releases}
 
 -- b's attempt from slot 1 to slot 4 is lost, and charged to the preemption in slot 2
 pub retried_once : retries any_job 0 10 (events retried 10) ≡ 1
@@ -30,6 +30,13 @@ retried_preemption = record { before = 1; follows = refl; had = refl; unfinished
 
 pub retried_held : IsHeld retried 2 (job 1 1) 1
 retried_held = let one : (so_far retried (job 1 1) 2).made ≡ 1 = refl in record { some = omega (arith, one); begins = refl }
+
+-- a preemption by a call that changes nothing is charged no retry
+pub quiet_retries : retries any_job 0 10 (events quiet_winner 10) ≡ 0
+quiet_retries = refl
+
+pub quiet_preemptions : preemptions any_job 0 10 (events quiet_winner 10) ≡ 1
+quiet_preemptions = refl
 
 -- two preemptions, one within the other, and a retry for each
 pub nested_retries : retries any_job 0 50 (events nested 50) ≡ 2

@@ -6,7 +6,7 @@ use Rattle.rx_ledger.specs.declared.events.Event.{Event}
 use Rattle.rx_ledger.specs.declared.events.Event.TheVariants.{Miss, Release, Preempt, Reply, Retry, Finish}
 use Rattle.rx_tick.specs.Schedule.{Slot, Idle, Busy, Decide, job_in, same, progress, is_finished, all_jobs, wins_on, slots}
 
--- how many attempts on the object won so far, which is its tag
+-- how many attempts on the object won so far with an entry that raises its tag: so many is its tag
 abbrev pub wins : ℕ → List Slot → ℕ
 wins object [] = 0
 wins object (slot ∷ past) = (if wins_on object slot then 1 else 0) + wins object past

@@ -2,14 +2,14 @@
 use Rattle.std.specs.Prelude.{◌≡◌, ◌+◌, refl, true, false, [], ◌∷◌, take, Some, None}
 use Rattle.std.proofs.Common.{arith}
 use Rattle.rx_seq.specs.History.{tag_of}
-use Rattle.rx_seq.specs.declared.calls.Call.TheVariants.{Add}
+use Rattle.rx_seq.specs.declared.calls.Call.TheVariants.{Get, Add}
 use Rattle.rx_seq.specs.declared.replies.Reply.TheVariants.{Done}
 use Rattle.rx_set.specs.System.{task_at}
 use Rattle.rx_set.specs.Operations.{operations_of}
 use Rattle.rx_tick.specs.Schedule.{Idle, Busy, Decide, history, wins_on, slots, slot_at}
 use Rattle.rx_tick.specs.Events.{wins, wins_below}
 use Rattle.rx_tick.specs.Laws.{who, so_far, finished_before, IsReply, IsRetry, slots_of, asked_up_to, lost_ticks, nth_job, operations_up_to, operations_in, IsAmid}
-use Rattle.rx_tick.specs.Rows.{job, work_alone, retried, nested, two_calls}
+use Rattle.rx_tick.specs.Rows.{job, work_alone, retried, quiet_winner, quiet_loser, nested, two_calls}
 use Rattle.rx_tick.specs.Sums.{tried_slots, opened_slots, decided_slots}
 
 -- b has slots 0, 2 and 3, and a preempts it in slot 1
@@ -45,7 +45,7 @@ lost_begins = refl
 pub lost_to : wins_on 0 (slot_at retried 3) ≡ true
 lost_to = refl
 
--- it expected no entry of the object, and found one
+-- it expected no loud entry of the object, and found one
 pub lost_retry : IsRetry retried 4 1 (job 1 1) 2 0 1
 lost_retry = record { object = 0; loses = refl; begins = refl; number = refl; expects = refl; finds = refl }
 
@@ -81,7 +81,7 @@ pub retried_history : history (slots retried 10) ≡
     ∷ record { caller = 0; index = 1; object = 0; call = Add 1; reply = Done 1; tag = 1 } ∷ []
 retried_history = refl
 
--- two entries, of which the first was there before slot 4
+-- two loud entries, of which the first was there before slot 4
 pub retried_tag : tag_of 0 (history (slots retried 10)) ≡ 2
 retried_tag = refl
 
@@ -90,6 +90,36 @@ retried_wins = refl
 
 pub retried_before : wins_below 0 4 (slots retried 10) ≡ 1
 retried_before = refl
+
+-- a's entry raises no tag, so b's attempt from slot 1 to slot 4 wins, with the first tag
+pub quiet_win : wins_on 0 (slot_at quiet_winner 3) ≡ false
+quiet_win = refl
+
+pub quiet_history : history (slots quiet_winner 10) ≡
+    record { caller = 1; index = 1; object = 0; call = Add 5; reply = Done 5; tag = 1 }
+    ∷ record { caller = 0; index = 1; object = 0; call = Get; reply = Done 0; tag = 0 } ∷ []
+quiet_history = refl
+
+pub quiet_reply : IsReply quiet_winner 4 1 (job 1 1) 2 (Done 5) 1
+quiet_reply = record {
+  object = 0;
+  entry = record { caller = 1; index = 1; object = 0; call = Add 5; reply = Done 5; tag = 1 };
+  wins = refl;
+  begins = refl;
+  number = refl;
+  replies = refl;
+  tags = refl;
+}
+
+pub quiet_tag : tag_of 0 (history (slots quiet_winner 10)) ≡ 1
+quiet_tag = refl
+
+pub quiet_wins : wins 0 (slots quiet_winner 10) ≡ 1
+quiet_wins = refl
+
+-- the other way round it is lost
+pub quiet_retry : IsRetry quiet_loser 4 1 (job 1 1) 2 0 1
+quiet_retry = record { object = 0; loses = refl; begins = refl; number = refl; expects = refl; finds = refl }
 
 -- the third entry of one task is its second job's
 pub calls_history : history (slots two_calls 11) ≡

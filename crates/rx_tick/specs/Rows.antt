@@ -1,9 +1,9 @@
--- Worked schedules: work alone, overload, a retry, nested preemption on a queue, two releases at once, a tie under
+-- Worked schedules: work alone, overload, a retry, calls that change nothing, nested preemption on a queue, two releases at once, a tie under
 -- earliest deadline first, and a demand row under rate-monotonic and one under deadline-monotonic priorities.
 use Rattle.std.specs.Prelude.{ℕ, ◌≡◌, refl, List, [], ◌∷◌, codes}
 use Rattle.rx_seq.specs.declared.kinds.Kind.TheVariants.{Cell, Queue}
-use Rattle.rx_seq.specs.declared.calls.Call.TheVariants.{Add, Put, Take}
-use Rattle.rx_seq.specs.declared.replies.Reply.TheVariants.{Done, Empty}
+use Rattle.rx_seq.specs.declared.calls.Call.TheVariants.{Get, Add, Put, Take}
+use Rattle.rx_seq.specs.declared.replies.Reply.TheVariants.{Done, Full, Empty}
 use Rattle.rx_set.specs.declared.policies.Policy.TheVariants.{Rm, Dm, Edf}
 use Rattle.rx_set.specs.declared.items.Item.{Item}
 use Rattle.rx_set.specs.declared.items.Item.TheVariants.{Work, Op}
@@ -59,6 +59,49 @@ pub retried_events : events retried 10 ≡
     ∷ Retry 4 1 (job 1 1) 2 0 1 ∷ Reply 6 5 (job 1 1) 2 (Done 6) 2 ∷ Finish 7 (job 1 1) ∷ []
 retried_events = refl
 
+-- a preempts b, and its call changes nothing: it wins with the tag that was there, and b's attempt is not spoiled
+abbrev pub quiet_winner : System
+quiet_winner = record {
+  policy = Rm;
+  objects = cell ∷ [];
+  tasks = task 10 2 (Op 0 Get ∷ []) ∷ task 20 0 (Work 1 ∷ Op 0 (Add 5) ∷ Work 1 ∷ []) ∷ [];
+  demands = [];
+}
+
+pub quiet_winner_events : events quiet_winner 10 ≡
+    Release 0 (job 1 1) ∷ Release 2 (job 0 1) ∷ Preempt 2 (job 1 1) (job 0 1) ∷ Reply 3 2 (job 0 1) 1 (Done 0) 0 ∷ Finish 3 (job 0 1)
+    ∷ Reply 4 1 (job 1 1) 2 (Done 5) 1 ∷ Finish 5 (job 1 1) ∷ []
+quiet_winner_events = refl
+
+-- b's call changes nothing, and a spoils its attempt like any other
+abbrev pub quiet_loser : System
+quiet_loser = record {
+  policy = Rm;
+  objects = cell ∷ [];
+  tasks = task 10 2 (Op 0 (Add 1) ∷ []) ∷ task 20 0 (Work 1 ∷ Op 0 Get ∷ Work 1 ∷ []) ∷ [];
+  demands = [];
+}
+
+pub quiet_loser_events : events quiet_loser 10 ≡
+    Release 0 (job 1 1) ∷ Release 2 (job 0 1) ∷ Preempt 2 (job 1 1) (job 0 1) ∷ Reply 3 2 (job 0 1) 1 (Done 1) 1 ∷ Finish 3 (job 0 1)
+    ∷ Retry 4 1 (job 1 1) 2 0 1 ∷ Reply 6 5 (job 1 1) 2 (Done 1) 1 ∷ Finish 7 (job 1 1) ∷ []
+quiet_loser_events = refl
+
+-- a's put finds the queue full, which spoils nobody: c, which it preempts, takes what b put
+abbrev full_put : System
+full_put = record {
+  policy = Rm;
+  objects = queue ∷ [];
+  tasks = task 100 12 (Op 0 (Put 6) ∷ []) ∷ task 200 0 (Op 0 (Put 5) ∷ []) ∷ task 400 10 (Op 0 Take ∷ []) ∷ [];
+  demands = [];
+}
+
+pub full_put_events : events full_put 30 ≡
+    Release 0 (job 1 1) ∷ Reply 7 0 (job 1 1) 1 (Done 1) 1 ∷ Finish 7 (job 1 1) ∷ Release 10 (job 2 1) ∷ Release 12 (job 0 1)
+    ∷ Preempt 12 (job 2 1) (job 0 1) ∷ Reply 19 12 (job 0 1) 1 Full 1 ∷ Finish 19 (job 0 1) ∷ Reply 25 10 (job 2 1) 1 (Done 5) 2
+    ∷ Finish 25 (job 2 1) ∷ []
+full_put_events = refl
+
 -- a preempts b, which preempted c, all on one queue of capacity 1, whose attempts take 8 ticks
 abbrev pub nested : System
 nested = record {
@@ -71,7 +114,7 @@ nested = record {
 pub nested_events : events nested 50 ≡
     Release 0 (job 2 1) ∷ Release 2 (job 1 1) ∷ Preempt 2 (job 2 1) (job 1 1) ∷ Release 4 (job 0 1) ∷ Preempt 4 (job 1 1) (job 0 1)
     ∷ Reply 11 4 (job 0 1) 1 (Done 1) 1 ∷ Finish 11 (job 0 1) ∷ Retry 17 2 (job 1 1) 1 0 1 ∷ Reply 25 18 (job 1 1) 1 (Done 7) 2 ∷ Finish 25 (job 1 1)
-    ∷ Retry 31 0 (job 2 1) 1 0 2 ∷ Reply 39 32 (job 2 1) 1 Empty 3 ∷ Finish 39 (job 2 1) ∷ []
+    ∷ Retry 31 0 (job 2 1) 1 0 2 ∷ Reply 39 32 (job 2 1) 1 Empty 2 ∷ Finish 39 (job 2 1) ∷ []
 nested_events = refl
 
 -- both deadlines are 10: under Edf the task that stands first in the file goes first

@@ -113,7 +113,7 @@ wins_on object (Busy job) = false
 wins_on object (Decide job other None) = false
 wins_on object (Decide job other (Some entry)) = (object == entry.object) && is_loud entry
 
--- an attempt on the object won in a slot after this one
+-- one won so in a slot after this one
 abbrev pub won_after : ℕ → ℕ → List Slot → Bool
 won_after object first [] = false
 won_after object first (slot ∷ past) = (wins_on object slot && nat_lt first (length past)) || won_after object first past
@@ -126,7 +126,7 @@ decides system (Some (Work ticks)) made = None
 decides system None made = None
 
 -- a tick of a job, which decides the attempt on an operation if it is its last one: it wins where none on its object
--- won since its first slot, and it is lost where one did
+-- won and raised the tag since its first slot, and it is lost where one did
 abbrev pub tick_in : System → List Slot → Job → Progress → Option Asked → Slot
 tick_in system past job p None = Busy job
 tick_in system past job p (Some operation) =

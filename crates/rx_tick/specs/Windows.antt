@@ -45,7 +45,7 @@ pub record IsWindow (system : System) (family : Job → Bool) (charges : ℕ →
   pub busy : IsBusyWindow system family a b
   pub covers : CoversRetries system family charges a b
 
--- the attempt on the object that a job begins in its first slot is spoiled by a win before b, whether it is decided before b or not
+-- the attempt on the object that a job begins in its first slot is spoiled by a loud win before b, whether it is decided before b or not
 pub record IsSpoiledAttempt (system : System) (b : ℕ) (job : Job) (first object : ℕ) : Type 0 where
   pub call : Call
   pub begins : slot_at system first ≡ Busy job

@@ -65,7 +65,8 @@ fn first_states(alloc: Global, set: &TaskSet) -> Result<Vec<State>, NoMemory>
 /// One simulated processor, and a set of tasks that it runs, slot by slot, with the objects that they share. It keeps one
 /// started job per task, with a machine for the operation that it has in hand, and counts of released and finished jobs.
 /// An operation is a retry loop (after Anderson, Ramamurthy and Jeffay, 1997): an attempt is lost where another one on
-/// its object won strictly between its first slot and its last.
+/// its object won, and raised its tag, strictly between its first slot and its last. One whose call changes nothing
+/// raises no tag, and makes no other one repeat.
 #[derive(Drop)]
 pub struct Executive<'s> {
     set: &'s TaskSet,
@@ -183,9 +184,9 @@ impl<'s> Executive<'s> {
     }
 
     /// Gives the bank back, which has the set's objects and a seat for each task and stands for the history of the
-    /// schedule: the tag of each object is the number of its entries, and its state is their replay. It made one exchange
-    /// for each attempt that was decided, at least a load for each that had a slot, and at most one event in each slot of
-    /// an attempt. Its cost is constant.
+    /// schedule: the tag of each object is the number of its loud entries, and its state is the replay of its entries. It
+    /// made one exchange for each attempt that was decided, at least a load for each that had a slot, and at most one event
+    /// in each slot of an attempt. Its cost is constant.
     pub fn into_bank(self) -> Bank
         ensures bank { result ≡ self.entry.bank }
         ensures history { IsBankOf self.entry.system (slots self.entry.system self.entry.time) result }
