@@ -22,10 +22,10 @@ exchange object expected found = record { object = object; expected = expected; 
 
 module _ (layout : Layout) (before now : View) (object : ℕ) where
   -- the call was made after so many lost attempts. What the seat has seen is legal: it begins with what it had seen,
-  -- goes on with entries of other seats of the table, at least one on the object for each lost attempt, and ends with
-  -- the entry of this call, whose reply and tag are answered. Its own entries are those before and this one. Its begins
-  -- and its exchanges rose by the lost attempts and one, the latest exchange found the root that it expected, and no
-  -- attempt is open. The root that was loaded did not have the last tag
+  -- goes on with entries of other seats of the table, at least one loud one on the object for each lost attempt, and
+  -- ends with the entry of this call, whose reply and tag are answered. Its own entries are those before and this one.
+  -- Its begins and its exchanges rose by the lost attempts and one, the latest exchange found the root that it expected,
+  -- and no attempt is open. The root that was loaded did not have the last tag
   pub record IsDone (call : Call) (reply : Reply) (tag lost : ℕ) : Type 0 where
     pub known : Known
     pub is : before.known ≡ Some known
@@ -49,8 +49,8 @@ module _ (layout : Layout) (before now : View) (object : ℕ) where
     pub closed : now.attempt ≡ None
     pub number : now.number ≡ before.number
 
-  -- so many attempts were lost, fewer than 2^40: the seat has seen at least one entry of other seats on the object for
-  -- each, made none, and owns the same places; its begins and its exchanges rose by as many
+  -- so many attempts were lost, fewer than 2^40: the seat has seen at least one loud entry of other seats on the
+  -- object for each, made none, and owns the same places; its begins and its exchanges rose by as many
   pub record HasWaited (lost : ℕ) : Type 0 where
     pub known : Known
     pub is : before.known ≡ Some known

@@ -15,27 +15,29 @@ use rx_table::{Seat, Shared, SharedPort};
 /// What an attempt of a call did.
 #[derive(Clone, Copy, Debug, PartialEq, Eq)]
 pub enum Try {
-    /// The call is made, with this reply and the object's new tag.
+    /// The call is made, with this reply. The tag is the object's after it: the next one, or the same if the call is
+    /// quiet.
     Done { reply: Reply, tag: u64 },
-    /// Another seat changed the object: the root that the attempt expected, and the one that its exchange found. The
-    /// seat's own places and entries are as before, and it may try again.
+    /// Another seat made a loud call on the object: the root that the attempt expected, and the one that its exchange
+    /// found. The seat's own places and entries are as before, and it may try again.
     Lost { expected: u64, found: u64 },
-    /// The object has its last tag, so the call cannot be made. The seat's own places and entries are as before, and its
-    /// next attempt takes the place of this one, which is still open.
+    /// The object has its last tag, so no call can be made, not even a quiet one. The seat's own places and entries are
+    /// as before, and its next attempt takes the place of this one, which is still open.
     Spent { tag: u64 },
 }
 
 /// What a call did.
 #[derive(Clone, Copy, Debug, PartialEq, Eq)]
 pub enum Outcome {
-    /// The call is made, with this reply and the object's new tag, after so many lost attempts.
+    /// The call is made, with this reply, after so many lost attempts. The tag is the object's after it: the next one, or
+    /// the same if the call is quiet.
     Done {
         reply: Reply,
         tag: u64,
         retries: u64,
     },
-    /// The object has its last tag, so the call cannot be made. The seat's own places and entries are as before, and its
-    /// next attempt takes the place of the last one, which is still open.
+    /// The object has its last tag, so no call can be made, not even a quiet one. The seat's own places and entries are
+    /// as before, and its next attempt takes the place of the last one, which is still open.
     Spent {
         tag: u64,
     },
@@ -113,9 +115,10 @@ pub fn attempt(shared: &Shared, seat: &mut Seat, object: u32, call: Call) -> Try
 
 /// Makes attempts of a call on an object that is there and that it fits, until one makes it or the tags are spent: the
 /// retry loop of lock-free objects (Herlihy, 1993). It returns: each lost attempt raises the tag that the seat has seen,
-/// and tags end. That some seat gets on is no clause, though a lost attempt shows the entry of another. It takes no memory and does not wait. Each attempt takes time that grows with the capacity of the object; how many
-/// other objects there are does not matter. It builds a machine of about 2,600 bytes; where calls follow one another, a
-/// `Runner` keeps one.
+/// and tags end. That some seat gets on is no clause, though a lost attempt shows the loud entry of another: quiet calls
+/// make no attempt repeat. It takes no memory and does not wait. Each attempt takes time that grows with the capacity of
+/// the object; how many other objects there are does not matter. It builds a machine of about 2,600 bytes; where calls
+/// follow one another, a `Runner` keeps one.
 pub fn operate(shared: &Shared, seat: &mut Seat, object: u32, call: Call) -> Outcome
     requires ours { IsSeatOf shared.now seat.old }
     requires exists { object < length shared.now.layout.parts }

@@ -85,7 +85,7 @@ fn done(reply: Reply, tag: u64) -> Option<Outcome> {
     })
 }
 
-// A list of the greatest capacity is filled, and changes at both ends.
+// A list of the greatest capacity is filled, and changes at both ends. A call that changes nothing keeps the tag.
 #[test]
 fn longest_list(rt: HostRuntime) -> Result<(), Fail> {
     let mut opened = match table_of(rt.alloc(), part(Kind::List, 64), 1, 0) {
@@ -98,35 +98,35 @@ fn longest_list(rt: HostRuntime) -> Result<(), Fail> {
     }
     assert_eq!(rt;
         call(&mut opened, 0, Call::Insert { k: 5 }),
-        done(Reply::Full, 65)
+        done(Reply::Full, 64)
     );
     assert_eq!(rt;
         call(&mut opened, 0, Call::Insert { k: 630 }),
-        done(Reply::Present, 66)
+        done(Reply::Present, 64)
     );
     assert_eq!(rt;
         call(&mut opened, 0, Call::Remove { k: 0 }),
-        done(Reply::Removed, 67)
+        done(Reply::Removed, 65)
     );
     assert_eq!(rt;
         call(&mut opened, 0, Call::Insert { k: 640 }),
-        done(Reply::Added, 68)
+        done(Reply::Added, 66)
     );
     assert_eq!(rt;
         call(&mut opened, 0, Call::Has { k: 0 }),
-        done(Reply::No, 69)
+        done(Reply::No, 66)
     );
     let Some((tag, state)) = close(rt.alloc(), opened) else {
         return Err("no memory".into());
     };
-    assert_eq!(rt; tag, 69);
+    assert_eq!(rt; tag, 66);
     assert_eq!(rt; state.len(), 64);
     assert_eq!(rt; state.first(), Some(&10));
     assert_eq!(rt; state.last(), Some(&640));
     Ok(())
 }
 
-// The last tag is given to one call more, and then to none.
+// The last tag is given to one call more, and then to none, be it one that looks.
 #[test]
 fn last_tag(rt: HostRuntime) -> Result<(), Fail> {
     let last = 1_099_511_627_775;
@@ -141,6 +141,10 @@ fn last_tag(rt: HostRuntime) -> Result<(), Fail> {
         Some(Outcome::Spent { tag: last })
     );
     assert_eq!(rt;
+        call(&mut opened, 0, Call::Get),
+        Some(Outcome::Spent { tag: last })
+    );
+    assert_eq!(rt;
         try_call(&mut opened, 0, add),
         Some(Try::Spent { tag: last })
     );
@@ -152,7 +156,7 @@ fn last_tag(rt: HostRuntime) -> Result<(), Fail> {
     Ok(())
 }
 
-// What one seat makes, the other finds.
+// What one seat makes, the other finds. A look keeps the tag.
 #[test]
 fn two_seats(rt: HostRuntime) -> Result<(), Fail> {
     let mut opened = match table_of(rt.alloc(), part(Kind::Cell, 1), 2, 0) {
@@ -163,13 +167,13 @@ fn two_seats(rt: HostRuntime) -> Result<(), Fail> {
     assert_eq!(rt; call(&mut opened, 0, add), done(Reply::Done { v: 5 }, 1));
     let got = Try::Done {
         reply: Reply::Done { v: 5 },
-        tag: 2,
+        tag: 1,
     };
     assert_eq!(rt; try_call(&mut opened, 1, Call::Get), Some(got));
     let Some((tag, state)) = close(rt.alloc(), opened) else {
         return Err("no memory".into());
     };
-    assert_eq!(rt; tag, 2);
+    assert_eq!(rt; tag, 1);
     assert_eq!(rt; state.as_slice(), [5].as_slice());
     Ok(())
 }
@@ -188,18 +192,28 @@ fn step(port: &mut SharedPort<'_>, machine: &mut Machine, seat: &mut Seat) -> Op
     Some(machine.step(port, seat))
 }
 
-// The steps of two attempts, one after the other: the one that decides later is lost, and wins at its second attempt.
-fn overtaken(shared: &Shared, first: &mut Seat, second: &mut Seat) -> Option<[Option<Step>; 6]>
+// The steps of two attempts, one after the other: the first seat's attempt to add 1 decides after the other call.
+fn overtaken(
+    shared: &Shared,
+    first: &mut Seat,
+    second: &mut Seat,
+    other: Call,
+) -> Option<[Option<Step>; 6]>
     requires first { IsSeatOf shared.now first.old }
     requires second { IsSeatOf shared.now second.old }
+    ensures first { IsSeatOf shared.now first.new }
+    ensures second { IsSeatOf shared.now second.new }
 {
     let add = Call::Add { v: 1 };
     let layout = shared.layout();
-    if layout.parts().len() == 0 || !fits(layout.parts()[0], add) {
+    if layout.parts().len() == 0
+        || !fits(layout.parts()[0], add)
+        || !fits(layout.parts()[0], other)
+    {
         return None;
     }
     let mut x = Machine::start(layout, 0, add);
-    let mut y = Machine::start(layout, 0, add);
+    let mut y = Machine::start(layout, 0, other);
     let mut port = shared.port();
     let a = step(&mut port, &mut x, first);
     let b = step(&mut port, &mut y, second);
@@ -210,6 +224,15 @@ fn overtaken(shared: &Shared, first: &mut Seat, second: &mut Seat) -> Option<[Op
     Some([a, b, c, d, e, f])
 }
 
+// The step that makes a call with this reply and tag.
+fn won(v: u32, tag: u64) -> Option<Step> {
+    Some(Step::Won {
+        reply: Reply::Done { v },
+        tag,
+    })
+}
+
+// An attempt that a look overtakes wins. One that an addition overtakes is lost, and wins at its second attempt.
 #[test]
 fn lost_attempt(rt: HostRuntime) -> Result<(), Fail> {
     let opened = match table_of(rt.alloc(), part(Kind::Cell, 1), 2, 0) {
@@ -223,23 +246,28 @@ fn lost_attempt(rt: HostRuntime) -> Result<(), Fail> {
     let Some(mut first) = seats.pop() else {
         return Err("no seat".into());
     };
-    let steps = [
+    let looked = [
         Some(Step::Going),
         Some(Step::Going),
-        Some(Step::Won {
-            reply: Reply::Done { v: 1 },
-            tag: 1,
-        }),
-        Some(Step::Lost {
-            expected: 0,
-            found: 16_777_217,
-        }),
-        Some(Step::Going),
-        Some(Step::Won {
-            reply: Reply::Done { v: 2 },
-            tag: 2,
-        }),
+        won(0, 0),
+        won(1, 1),
+        None,
+        None,
     ];
-    assert_eq!(rt; overtaken(&shared, &mut first, &mut second), Some(steps));
+    let steps = overtaken(&shared, &mut first, &mut second, Call::Get);
+    assert_eq!(rt; steps, Some(looked));
+    let added = [
+        Some(Step::Going),
+        Some(Step::Going),
+        won(2, 2),
+        Some(Step::Lost {
+            expected: 16_777_217,
+            found: 33_554_434,
+        }),
+        Some(Step::Going),
+        won(3, 3),
+    ];
+    let steps = overtaken(&shared, &mut first, &mut second, Call::Add { v: 1 });
+    assert_eq!(rt; steps, Some(added));
     Ok(())
 }

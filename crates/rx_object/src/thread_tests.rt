@@ -1,11 +1,12 @@
 // Two threads that call on one table at once. What each of them recorded is, put in the order of the tags, one legal
-// history of each object.
+// history of each object: the calls that changed nothing stand after the call that gave the tag.
+ghost use Rattle.rx_seq.specs.States.{IsState};
 ghost use Rattle.rx_seq.specs.Table.{IsPart};
 ghost use Rattle.rx_table.specs.Boards.{AreSeats, IsSeatOf};
 ghost use Rattle.std.specs.Prelude.{◌≡◌, ◌≤◌, IfOk, IfSome};
 
 use super::*;
-use rx_seq::{Call, Kind, NoMemory, Part, Reply, Row, State, apply, fits, start};
+use rx_seq::{Call, Kind, NoMemory, Part, Reply, Row, State, apply, fits, quiet, start};
 use rx_shape::Layout;
 use rx_table::{Closed, Opened, Seat, Shared};
 use std::alloc::Global;
@@ -242,46 +243,87 @@ fn close(alloc: Global, shared: Shared, first: Seat, second: Seat) -> Option<Clo
     shared.close(alloc, seats).ok()
 }
 
-// Puts the calls on an object at the places of their tags, from tag 1. It says whether each has a place of its own.
-fn put_in_order(order: &mut [Option<Record>], records: &[Record], object: u32) -> bool {
+// Puts the loud calls on an object at the places of their tags, from tag 1, and gathers the quiet ones. It says whether
+// each loud one has a place of its own, and each quiet one a tag that is there.
+fn put_in_order(
+    louds: &mut [Option<Record>],
+    quiets: &mut Vec<Record>,
+    records: &[Record],
+    object: u32,
+) -> bool {
     for record in records {
-        if record.object == object {
-            let place = record.tag.wrapping_sub(1) as usize;
-            if place >= order.len() || order[place].is_some() {
+        if record.object == object && quiet(record.call, record.reply) {
+            if record.tag > louds.len() as u64 || quiets.push(*record).is_err() {
                 return false;
             }
-            order[place] = Some(*record);
+        } else if record.object == object {
+            let place = record.tag.wrapping_sub(1) as usize;
+            if place >= louds.len() || louds[place].is_some() {
+                return false;
+            }
+            louds[place] = Some(*record);
         }
     }
     true
 }
 
-// The state after these calls, or none where a call is missing or has another reply.
-fn replay(part: Part, order: &[Option<Record>]) -> Option<State>
+// Makes a call again, and says whether it has the same reply.
+fn repeats(part: Part, state: &mut State, record: &Record) -> bool
+    requires part { IsPart part }
+    requires state { IsState part state.old.items }
+    ensures { IsState part state.new.items }
+{
+    fits(part, record.call) && apply(part, state, record.call) == record.reply
+}
+
+// Makes the quiet calls of a tag again, and says whether each has the same reply.
+fn looks(part: Part, state: &mut State, quiets: &[Record], tag: u64) -> bool
+    requires part { IsPart part }
+    requires state { IsState part state.old.items }
+    ensures { IsState part state.new.items }
+{
+    for record in quiets {
+        if record.tag == tag && !repeats(part, state, record) {
+            return false;
+        }
+    }
+    true
+}
+
+// The state after the loud calls, with the quiet ones of a tag after the loud one that has it, or none where a loud call
+// is missing or a call has another reply.
+fn replay(part: Part, louds: &[Option<Record>], quiets: &[Record]) -> Option<State>
     requires { IsPart part }
 {
     let mut state = State::new();
     start(part, &mut state);
-    for place in order {
+    if !looks(part, &mut state, quiets, 0) {
+        return None;
+    }
+    for place in louds {
         let record = (*place)?;
-        if !fits(part, record.call) || apply(part, &mut state, record.call) != record.reply {
+        if !repeats(part, &mut state, &record) || !looks(part, &mut state, quiets, record.tag) {
             return None;
         }
     }
     Some(state)
 }
 
-// How many calls on an object there are, and how often one of them was lost.
-fn calls_and_retries(records: &[Record], object: u32) -> (u64, u64) {
+// How many calls on an object there are, how many of them are loud, and how often one of them was lost.
+fn calls_and_retries(records: &[Record], object: u32) -> (u64, u64, u64) {
     let mut calls = 0u64;
+    let mut louds = 0u64;
     let mut retries = 0u64;
     for record in records {
         if record.object == object {
             calls = calls.saturating_add(1);
             retries = retries.saturating_add(record.retries);
+            if !quiet(record.call, record.reply) {
+                louds = louds.saturating_add(1);
+            }
         }
     }
-    (calls, retries)
+    (calls, louds, retries)
 }
 
 // Checks what both threads recorded of an object against one another and against the closed table.
@@ -296,24 +338,27 @@ fn check(
     let layout = closed.layout();
     assert!(rt; (object as usize) < layout.parts().len());
     let calls = u64::from(CALLS);
-    let (made, lost) = calls_and_retries(first, object);
-    let (made_too, lost_too) = calls_and_retries(second, object);
+    let (made, loud, lost) = calls_and_retries(first, object);
+    let (made_too, loud_too, lost_too) = calls_and_retries(second, object);
     assert_eq!(rt; (made, made_too), (calls, calls), "object {object}");
-    assert!(rt; lost <= made_too && lost_too <= made, "object {object}");
-    let mut order = Vec::from_elem(alloc, None, 2 * CALLS as usize).expect(rt, "memory");
+    assert!(rt; lost <= loud_too && lost_too <= loud, "object {object}");
+    let tag = closed.tag(object);
+    assert_eq!(rt; tag, loud.saturating_add(loud_too), "object {object}");
+    let mut louds = Vec::from_elem(alloc, None, tag as usize).expect(rt, "memory");
+    let mut quiets = Vec::new(alloc);
     assert!(rt;
-        put_in_order(order.as_mut_slice(), first, object),
+        put_in_order(louds.as_mut_slice(), &mut quiets, first, object),
         "object {object}"
     );
     assert!(rt;
-        put_in_order(order.as_mut_slice(), second, object),
+        put_in_order(louds.as_mut_slice(), &mut quiets, second, object),
         "object {object}"
     );
-    let replayed = replay(layout.parts()[object as usize], order.as_slice());
+    let part = layout.parts()[object as usize];
+    let replayed = replay(part, louds.as_slice(), quiets.as_slice());
     let mut state = State::new();
     closed.state(object, &mut state);
     assert_eq!(rt; replayed, Some(state), "object {object}");
-    assert_eq!(rt; closed.tag(object), 2 * calls, "object {object}");
 }
 
 #[test]
