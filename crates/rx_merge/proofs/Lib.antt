@@ -1,6 +1,7 @@
 pub mod Filters
-pub mod Projections
+pub mod Moves
 pub mod Steps
 pub mod Whole
+pub mod Tallies
 pub mod MergeStates
 pub mod Samples

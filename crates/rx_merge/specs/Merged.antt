@@ -1,11 +1,13 @@
 -- One order of the entries of several callers. A caller's list is oldest first; the merged order is newest first, as histories are.
-use Rattle.std.specs.Prelude.{ℕ, zero, suc, ◌≡◌, ◌+◌, ◌<◌, ◌==◌, Bool, if◌then◌else◌, List, [], ◌∷◌, length, reverse, map, filter, sum_by, slice_get, slice_index_or, Option, Some, None, Vec}
-use Rattle.std.specs.List.{AllByRecursion}
+use Rattle.std.specs.Prelude.{ℕ, zero, suc, ◌≡◌, ◌+◌, ◌<◌, ◌==◌, ◌&&◌, not, Bool, true, if◌then◌else◌, List, [], ◌∷◌, length, reverse, drop, map, filter, sum_by, slice_get, slice_index_or, Option, Some, None, Vec}
+use Rattle.std.specs.List.{All, AllByRecursion, list_all}
 use Rattle.std.specs.declared.alloc.Global.{Global}
 use Rattle.rx_seq.specs.declared.kinds.Part.{Part}
 use Rattle.rx_seq.specs.declared.entries.Entry.{Entry}
-use Rattle.rx_seq.specs.History.{tag_of, calls_of}
+use Rattle.rx_seq.specs.Table.{IsPart}
+use Rattle.rx_seq.specs.History.{is_loud, tag_of, calls_of}
 use Rattle.rx_seq.specs.Legal.{IsLegal, entries_of}
+use Rattle.rx_seq.specs.States.{IsFitting}
 
 -- the entries of each caller, oldest first
 abbrev pub lists_of : List (Vec Entry Global) → List (List Entry)
@@ -27,10 +29,17 @@ is_on object entry = object == entry.object
 abbrev pub entries_on : ℕ → List Entry → List Entry
 entries_on object entries = filter (is_on object) entries
 
--- the lists are those of callers 0, 1 and so on of one legal history: its tags begin at 0, each list has its caller's
--- entries in their order, no entry is of another caller, and each is on one of so many objects
+-- the loud ones among them
+abbrev pub louds_on : ℕ → List Entry → List Entry
+louds_on object entries = filter is_loud (entries_on object entries)
+
+-- the lists are those of callers 0, 1 and so on of one legal history: its tags begin at 0, its objects are within their
+-- limits and its calls fit them, each list has its caller's entries in their order, no entry is of another caller, and
+-- each is on one of so many objects
 pub record AreOf (parts : List Part) (objects : ℕ) (lists : List (List Entry)) (history : List Entry) : Type 0 where
   pub legal : IsLegal parts 0 history
+  pub limits : All IsPart parts
+  pub fitting : All (IsFitting parts) history
   pub own : (caller : ℕ) → caller < length lists → list_at lists caller ≡ reverse (entries_of caller history)
   pub callers : AllByRecursion (λ entry. entry.caller < length lists) history
   pub known : AllByRecursion (λ entry. entry.object < objects) history
@@ -39,18 +48,35 @@ pub record AreOf (parts : List Part) (objects : ℕ) (lists : List (List Entry))
 abbrev pub next_of : List (List Entry) → List Entry → ℕ → Option Entry
 next_of lists taken caller = slice_get (list_at lists caller) (calls_of caller taken)
 
--- an entry is ready if it has the next tag of its object
-abbrev pub is_ready : List Entry → Entry → Bool
-is_ready taken entry = entry.tag == tag_of entry.object taken + 1
+-- all entries that a caller has left, after those taken
+abbrev pub left_of : List (List Entry) → List Entry → ℕ → List Entry
+left_of lists taken caller = drop (calls_of caller taken) (list_at lists caller)
+
+-- a quiet entry on an object, of this tag
+abbrev pub is_quiet_at : ℕ → ℕ → Entry → Bool
+is_quiet_at object tag entry = is_on object entry && not (is_loud entry) && (entry.tag == tag)
+
+-- none of so many first callers has a quiet entry on the object and of this tag left, be it the next one or a later one
+abbrev pub none_waits : List (List Entry) → List Entry → ℕ → ℕ → ℕ → Bool
+none_waits lists taken object tag zero = true
+none_waits lists taken object tag (suc n) =
+    none_waits lists taken object tag n && list_all (λ entry. not (is_quiet_at object tag entry)) (left_of lists taken n)
+
+-- a quiet entry is ready if it has the tag of its object. A loud one is ready if it has the next tag, and no quiet entry
+-- of the tag before is left
+abbrev pub is_ready : List (List Entry) → List Entry → Entry → Bool
+is_ready lists taken entry =
+    let tag = tag_of entry.object taken in
+    if is_loud entry then (entry.tag == tag + 1) && none_waits lists taken entry.object tag (length lists) else entry.tag == tag
 
 -- what is there, if it is ready
-abbrev pub if_ready : List Entry → Option Entry → Option Entry
-if_ready taken None = None
-if_ready taken (Some entry) = if is_ready taken entry then Some entry else None
+abbrev pub if_ready : List (List Entry) → List Entry → Option Entry → Option Entry
+if_ready lists taken None = None
+if_ready lists taken (Some entry) = if is_ready lists taken entry then Some entry else None
 
 -- the next entry of a caller, if it is ready
 abbrev pub ready_of : List (List Entry) → List Entry → ℕ → Option Entry
-ready_of lists taken caller = if_ready taken (next_of lists taken caller)
+ready_of lists taken caller = if_ready lists taken (next_of lists taken caller)
 
 -- the first of two that is there
 abbrev pub or_else : Option Entry → Option Entry → Option Entry

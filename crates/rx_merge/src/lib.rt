@@ -2,6 +2,7 @@
 //! which the caller made them, are merged into one history that has them all.
 #![tactic(auto)]
 
+mod counts;
 pub mod laws;
 mod merge_state;
 mod orders;

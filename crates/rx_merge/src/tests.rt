@@ -1,4 +1,4 @@
-// Worked orders of the entries of three callers.
+// Worked orders of the entries of some callers.
 ghost use Rattle.rx_merge.specs.Merged.{AreOf};
 ghost use Rattle.rx_merge.specs.Rows.{made as made_by};
 ghost use Rattle.rx_seq.specs.declared.entries.Entry.{Entry as AnEntry};
@@ -53,9 +53,9 @@ fn orders(rt: HostRuntime) {
     wants(&rt, alloc, &[late], &[early], &[], &[early, late]);
     let zero_writes = made(0, 1, 1, Call::Set { v: 7 }, 7, 2);
     let one_writes = made(1, 1, 0, Call::Set { v: 3 }, 3, 1);
-    let one_reads = made(1, 2, 1, Call::Get, 7, 3);
+    let one_reads = made(1, 2, 1, Call::Get, 7, 2);
     let two_writes = made(2, 1, 1, Call::Set { v: 4 }, 4, 1);
-    let two_reads = made(2, 2, 0, Call::Get, 3, 2);
+    let two_reads = made(2, 2, 0, Call::Get, 3, 1);
     wants(
         &rt,
         alloc,
@@ -63,5 +63,27 @@ fn orders(rt: HostRuntime) {
         &[one_writes, one_reads],
         &[two_writes, two_reads],
         &[one_writes, two_writes, zero_writes, one_reads, two_reads],
+    );
+    let zero_sets = made(0, 1, 0, Call::Set { v: 5 }, 5, 1);
+    let one_adds = made(1, 1, 1, Call::Add { v: 2 }, 2, 1);
+    let one_looks = made(1, 2, 0, Call::Get, 0, 0);
+    wants(
+        &rt,
+        alloc,
+        &[zero_sets],
+        &[one_adds, one_looks],
+        &[],
+        &[one_adds, one_looks, zero_sets],
+    );
+    let zero_looks = made(0, 1, 0, Call::Get, 5, 1);
+    let one_looks_first = made(1, 1, 0, Call::Get, 0, 0);
+    let one_adds_then = made(1, 2, 0, Call::Add { v: 5 }, 5, 1);
+    wants(
+        &rt,
+        alloc,
+        &[zero_looks],
+        &[one_looks_first, one_adds_then],
+        &[],
+        &[one_looks_first, one_adds_then, zero_looks],
     );
 }

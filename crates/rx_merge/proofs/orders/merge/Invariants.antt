@@ -9,5 +9,5 @@ invariant-loop l = record {
   order : l.state.order.items ≡ reverse (merged_to (lists_of l.lists) l.counter);
   room : l.count ≤ vec_capacity l.state.order;
   tags : length l.state.tags.items ≡ l.objects;
-  state : IsMergeState (lists_of l.lists) (merged_to (lists_of l.lists) l.counter) l.state.places.items l.state.tags.items l.state.ended;
+  state : IsMergeState (lists_of l.lists) (merged_to (lists_of l.lists) l.counter) l.state.places.items l.state.tags.items l.state.starts.items l.state.waiting.items l.state.ended;
 }

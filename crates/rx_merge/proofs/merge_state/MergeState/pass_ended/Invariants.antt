@@ -9,5 +9,7 @@ invariant-loop-caller l = record {
   order : l.self.order ≡ l.fn.self.order;
   places : l.self.places ≡ l.fn.self.places;
   tags : l.self.tags ≡ l.fn.self.tags;
-  state : IsMergeState (lists_of l.lists) (reverse l.self.order.items) l.self.places.items l.self.tags.items l.caller;
+  starts : l.self.starts ≡ l.fn.self.starts;
+  waiting : l.self.waiting ≡ l.fn.self.waiting;
+  state : IsMergeState (lists_of l.lists) (reverse l.self.order.items) l.self.places.items l.self.tags.items l.self.starts.items l.self.waiting.items l.caller;
 }
