@@ -1,27 +1,29 @@
 -- The lists of all tasks as those of one legal history.
-use Rattle.std.proofs.Common.{ℕ, zero, suc, ◌≡◌, ◌+◌, ◌<◌, ◌≤◌, ◌%◌, Bool, true, false, List, [], ◌∷◌, ◌++◌, length, map, reverse, take, drop, get_or, refl, sym, ap, ap₂, ◌∙◌, subst, arith, ◌==◌, All, sum_by, mod-lt, Vec, Global}
+use Rattle.std.proofs.Common.{ℕ, zero, suc, ◌≡◌, ◌+◌, ◌<◌, ◌≤◌, ◌%◌, Bool, true, false, List, [], ◌∷◌, ◌++◌, length, map, reverse, take, drop, get_or, refl, sym, ap, ap₂, ◌∙◌, subst, arith, ◌==◌, All, IsPermutation, sum_by, mod-lt, Vec, Global}
 use Rattle.std.specs.List.{AllByRecursion}
 use Rattle.std.proofs.lemmas.List.{ext_get_or, get_or-map, length-map, length-reverse, reverse-reverse, take_all}
-use Rattle.std.proofs.lemmas.List.Elements.{recursion_from_All, All-weaker}
+use Rattle.std.proofs.lemmas.List.Elements.{recursion_from_All, All-from_recursion, All-weaker}
 use Rattle.std.proofs.lemmas.List.Sums.{sum_by_push}
+use Rattle.std.proofs.lemmas.List.Sorted.{IsPermutation-map}
 use Rattle.rx_seq.specs.declared.entries.Entry.{Entry}
 use Rattle.rx_seq.specs.declared.kinds.Part.{Part}
-use Rattle.rx_seq.specs.History.{calls_of}
+use Rattle.rx_seq.specs.History.{calls_of, replay, tag_of}
 use Rattle.rx_seq.specs.Legal.{IsLegal, entries_of}
 use Rattle.rx_seq.specs.States.{IsFitting}
+use Rattle.rx_seq.specs.Table.{IsPart}
 use Rattle.rx_set.specs.System.{System, numbers, parts_of}
 use Rattle.rx_set.proofs.Counts.{length-numbers, get_or-numbers}
 use Rattle.rx_shape.specs.Layout.{Layout}
 use Rattle.rx_table.specs.Closings.{Ending, HasEnded}
-use Rattle.rx_merge.specs.Merged.{AreOf, list_at, lists_of, entries_on, merged}
+use Rattle.rx_merge.specs.Merged.{AreOf, list_at, lists_of, entries_on, louds_on, merged}
 use Rattle.rx_set.specs.Operations.{asked_of, script_of}
 use Rattle.rx_lanes.specs.declared.answers.Answer.{Answer}
 use Rattle.rx_lanes.specs.Scripts.{calls_to, lane_script}
-use Rattle.rx_lanes.specs.Histories.{IsMade, made_of}
+use Rattle.rx_lanes.specs.Histories.{HaveSameEnds, HaveSameObjects, IsMade, made_of}
 use Rattle.rx_lanes.specs.Lists.{IsListOf, answer_of, plain, IsTold}
 use Rattle.rx_lanes.specs.Runs.{AreLists, AreShared, AreKept, answers_at, entries_by, lists_in, table_of}
 use Rattle.rx_lanes.proofs.Listing.{are_lists, lane_list, mine_only, others_none, all_tasks, asked_upto, told_upto}
-use Rattle.rx_lanes.proofs.Plain.{plain_from, legal_plain, same_on, calls_of_length, IsBelow, all_below, below_none, below_more, below_all, count_below}
+use Rattle.rx_lanes.proofs.Plain.{plain_from, legal_plain, same_on, same_louds, same_ends, same_all, calls_of_length, IsBelow, all_below, below_none, below_more, below_all, count_below}
 use Rattle.rx_lanes.proofs.Renaming.{renamed, Begin, renamed_plain, renamed_all, renamed_of}
 
 -- the lists of each lane are its seat's entries
@@ -46,19 +48,13 @@ over_numbers list_of n lists many each =
     let count : length (map list_of (numbers n)) ≡ n = length-map (numbers n) list_of ∙ length-numbers n in
     ext_get_or [] (map list_of (numbers n)) lists (count ∙ sym many) (λ k inside. number_at list_of n k (omega (arith, inside, count)) ∙ each k (omega (arith, inside, count)))
 
--- objects do not look at callers
-objects_plain : (n : ℕ) (es : List Entry) → AllByRecursion (λ e. e.object < n) es → AllByRecursion (λ e. e.object < n) (map plain es)
-objects_plain n [] h = tt
-objects_plain n (e ∷ es) h = (h.0, objects_plain n es h.1)
-
-plain_objects : (n : ℕ) (es : List Entry) → AllByRecursion (λ e. e.object < n) (map plain es) → AllByRecursion (λ e. e.object < n) es
-plain_objects n [] h = tt
-plain_objects n (e ∷ es) h = (h.0, plain_objects n es h.1)
-
 -- a table's history is one of the set's objects
 module _ (system : System) (workers : ℕ) (layout : Layout) (history : List Entry) (is : layout ≡ table_of system workers) where
   legal_at : IsLegal layout.parts layout.first history → IsLegal (parts_of system) 0 history
   legal_at h = subst (λ (l : Layout). IsLegal l.parts l.first history) is h
+
+  limits_at : All IsPart layout.parts → All IsPart (parts_of system)
+  limits_at h = subst (λ (l : Layout). All IsPart l.parts) is h
 
   fitting_at : All (IsFitting layout.parts) history → All (IsFitting (parts_of system)) history
   fitting_at h = subst (λ (l : Layout). All (IsFitting l.parts) history) is h
@@ -72,6 +68,7 @@ pub record IsGathered (system : System) (jobs workers : ℕ) (history : List Ent
   pub are : AreLists system jobs lists
   pub shared : AreShared system workers lists history
   pub legal : IsLegal (parts_of system) 0 history
+  pub limits : All IsPart (parts_of system)
   pub fitting : All (IsFitting (parts_of system)) history
   pub callers : (seat : ℕ) → workers ≤ seat → entries_of seat history ≡ []
 
@@ -86,6 +83,7 @@ gather system jobs workers closed answers lists some layout ended kept many each
       are = are;
       shared = shared_from system jobs workers closed.history answers (lists_of lists) kept are (λ task known. (each task known).told);
       legal = legal_at system workers closed.layout closed.history layout ended.legal;
+      limits = limits_at system workers closed.layout closed.history layout ended.limits.parts;
       fitting = fitting_at system workers closed.layout closed.history layout ended.fitting;
       callers = callers_at system workers closed.layout closed.history layout ended.callers;
     }
@@ -126,13 +124,18 @@ module _ (system : System) (jobs workers : ℕ) (history : List Entry) (lists : 
 
   pub are_of : (objects : ℕ) → objects ≡ length (parts_of system) → AreOf (parts_of system) objects lists by_tasks
   are_of objects count =
+      let parts = parts_of system in
+      let fitting : AllByRecursion (IsFitting parts) by_tasks
+      = same_all (IsFitting parts) (λ e h. record { exists = h.exists; fits = h.fits }) (λ e h. record { exists = h.exists; fits = h.fits }) by_tasks history same_calls (recursion_from_All (IsFitting parts) history gathered.fitting) in
+      let all : All (IsFitting parts) by_tasks = All-from_recursion (IsFitting parts) by_tasks fitting in
       let P : Entry → Type 0 = λ e. e.object < objects in
-      let known : AllByRecursion P history = recursion_from_All P history (All-weaker (IsFitting (parts_of system)) P (λ e h. let x = h.exists in omega (arith, count)) history gathered.fitting) in
       record {
-        legal = legal_plain (parts_of system) 0 by_tasks history same_calls gathered.legal;
+        legal = legal_plain parts 0 by_tasks history same_calls gathered.legal;
+        limits = gathered.limits;
+        fitting = all;
         own = λ caller h. sym (own_list caller (omega (arith, gathered.are.many)));
         callers = subst (λ (n : ℕ). AllByRecursion (IsBelow n) by_tasks) (sym gathered.are.many) tasks_below;
-        known = plain_objects objects by_tasks (subst (AllByRecursion P) (sym same_calls) (objects_plain objects history known));
+        known = recursion_from_All P by_tasks (All-weaker (IsFitting parts) P (λ e h. let x = h.exists in omega (arith, count)) by_tasks all);
       }
 
   own_count : (task : ℕ) → task < length system.tasks → calls_of task by_tasks ≡ length (script_of system jobs task)
@@ -171,15 +174,27 @@ module _ (system : System) (jobs workers : ℕ) (history : List Entry) (lists : 
     order_whole : Law (λ parts ls h. length (merged ls) ≡ length h) → length order ≡ sum_by (λ (task : ℕ). length (script_of system jobs task)) (numbers (length system.tasks))
     order_whole law = ap length order_is ∙ length-reverse (merged lists) ∙ holds _ law ∙ size
 
-    pub order_on : Law (λ parts ls h. (object : ℕ) → entries_on object (merged ls) ≡ entries_on object h) → (object : ℕ) → map plain (entries_on object (reverse order)) ≡ map plain (entries_on object history)
-    order_on law object =
-        let same : entries_on object (merged lists) ≡ entries_on object by_tasks = holds _ law object in
-        ap (λ (xs : List Entry). map plain (entries_on object xs)) back ∙ ap (map plain) same ∙ same_on object by_tasks history same_calls
+    pub order_on : Law (λ parts ls h. (object : ℕ) → louds_on object (merged ls) ≡ louds_on object h) → Law (λ parts ls h. (object : ℕ) → IsPermutation (entries_on object (merged ls)) (entries_on object h))
+        → HaveSameObjects (reverse order) history
+    order_on loud all = record {
+      loud = λ object.
+          let same : louds_on object (merged lists) ≡ louds_on object by_tasks = holds _ loud object in
+          ap (λ (xs : List Entry). map plain (louds_on object xs)) back ∙ ap (map plain) same ∙ same_louds object by_tasks history same_calls;
+      all = λ object.
+          let same : IsPermutation (entries_on object (merged lists)) (entries_on object by_tasks) = holds _ all object in
+          subst (λ (xs : List Entry). IsPermutation (map plain (entries_on object xs)) (map plain (entries_on object history))) (sym back)
+          (subst (IsPermutation (map plain (entries_on object (merged lists)))) (same_on object by_tasks history same_calls) (IsPermutation-map plain (entries_on object (merged lists)) (entries_on object by_tasks) same));
+    }
+
+    pub order_ends : Law (λ parts ls h. (object : ℕ) → (tag_of object (merged ls) ≡ tag_of object h) × (replay parts object (merged ls) ≡ replay parts object h)) → HaveSameEnds (parts_of system) (reverse order) history
+    order_ends law = λ object.
+        let same : (tag_of object (merged lists) ≡ tag_of object by_tasks) × (replay (parts_of system) object (merged lists) ≡ replay (parts_of system) object by_tasks) = holds _ law object in
+        let last = same_ends (parts_of system) object by_tasks history same_calls in
+        (ap (tag_of object) back ∙ same.0 ∙ last.0, ap (replay (parts_of system) object) back ∙ same.1 ∙ last.1)
 
     -- all of it: so many lanes made it, in the order of the table
     pub order_made : Law (λ parts ls h. (caller : ℕ) → caller < length ls → reverse (entries_of caller (merged ls)) ≡ list_at ls caller) → Law (λ parts ls h. IsLegal parts 0 (merged ls))
-        → Law (λ parts ls h. length (merged ls) ≡ length h) → Law (λ parts ls h. (object : ℕ) → entries_on object (merged ls) ≡ entries_on object h)
-        → IsMade (made_of system workers jobs (reverse order))
+        → Law (λ parts ls h. length (merged ls) ≡ length h) → HaveSameObjects (reverse order) history → IsMade (made_of system workers jobs (reverse order))
     order_made callers legal whole objects =
         let own : lists_in system (reverse order) ≡ lists = order_own callers in
         let list_in : (task : ℕ) → task < length system.tasks → list_at lists task ≡ entries_by task (reverse order)
@@ -192,6 +207,6 @@ module _ (system : System) (jobs workers : ℕ) (history : List Entry) (lists : 
             order = history;
             legal = gathered.legal;
             lanes = subst (λ (ls : List (List Entry)). AreShared system workers ls history) (sym own) gathered.shared;
-            objects = order_on objects;
+            objects = objects;
           };
         }

@@ -1,5 +1,5 @@
 -- Entries without their callers.
-use Rattle.std.proofs.Common.{ℕ, zero, suc, ◌≡◌, ◌≢◌, ◌+◌, ◌<◌, ◌≤◌, Bool, true, false, cond, List, [], ◌∷◌, ◌++◌, length, map, reverse, take, get_or, slice_get, Option, Some, None, refl, sym, ap, ap₂, ◌∙◌, subst, inl, inr, arith, length-append, nat_lt, ◌==◌, ne_eqb, eq-eqb, lt-ltb}
+use Rattle.std.proofs.Common.{ℕ, zero, suc, ◌≡◌, ◌≢◌, ◌+◌, ◌<◌, ◌≤◌, Bool, true, false, cond, ◌&&◌, List, [], ◌∷◌, ◌++◌, length, map, reverse, take, get_or, slice_get, Option, Some, None, refl, sym, ap, ap₂, ◌∙◌, subst, inl, inr, arith, length-append, nat_lt, ◌==◌, ne_eqb, eq-eqb, lt-ltb}
 use Rattle.std.specs.Prelude.{filter}
 use Rattle.std.specs.List.{AllByRecursion}
 use Rattle.std.proofs.lemmas.Bool.{cases_Bool, cases_lt}
@@ -8,9 +8,9 @@ use Rattle.std.proofs.lemmas.List.{reverse-append}
 use Rattle.rx_seq.specs.declared.kinds.Part.{Part}
 use Rattle.rx_seq.specs.declared.entries.Entry.{Entry}
 use Rattle.rx_seq.specs.Table.{effect}
-use Rattle.rx_seq.specs.History.{part_at, replay, tag_of, calls_of}
+use Rattle.rx_seq.specs.History.{is_loud, part_at, replay, tag_of, calls_of}
 use Rattle.rx_seq.specs.Legal.{IsLegal, entries_of}
-use Rattle.rx_merge.specs.Merged.{entries_on}
+use Rattle.rx_merge.specs.Merged.{entries_on, louds_on}
 use Rattle.rx_lanes.specs.declared.answers.Answer.{Answer}
 use Rattle.rx_set.specs.Operations.{Asked, asked_of}
 use Rattle.rx_lanes.specs.Lists.{answer_of, plain}
@@ -45,7 +45,7 @@ plain_from (x ∷ xs) (y ∷ ys) a r =
     tail : {X : Type 0} (a b : X) (us vs : List X) → a ∷ us ≡ b ∷ vs → us ≡ vs
     tail a b us vs e = cc
 
--- tags, states and entries on an object do not look at callers
+-- tags, states, entries on an object and loud ones do not look at callers
 pub tag_plain : (object : ℕ) (es : List Entry) → tag_of object (map plain es) ≡ tag_of object es
 tag_plain object [] = refl
 tag_plain object (e ∷ es) = rw (tag_plain object es) refl
@@ -59,6 +59,13 @@ on_plain object [] = refl
 on_plain object (e ∷ es) = elim (cases_Bool (object == e.object)) [
   | inl y ↦ rw y (ap (λ (xs : List Entry). plain e ∷ xs) (on_plain object es))
   | inr y ↦ rw y (on_plain object es)
+]
+
+loud_plain : (es : List Entry) → map plain (filter is_loud es) ≡ filter is_loud (map plain es)
+loud_plain [] = refl
+loud_plain (e ∷ es) = elim (cases_Bool (is_loud e)) [
+  | inl y ↦ rw y (ap (λ (xs : List Entry). plain e ∷ xs) (loud_plain es))
+  | inr y ↦ rw y (loud_plain es)
 ]
 
 to_plain : (parts : List Part) (first : ℕ) (es : List Entry) → IsLegal parts first es → IsLegal parts first (map plain es)
@@ -83,6 +90,28 @@ legal_plain parts first xs ys same h = from_plain parts first xs (subst (IsLegal
 pub same_on : (object : ℕ) (xs ys : List Entry) → map plain xs ≡ map plain ys → map plain (entries_on object xs) ≡ map plain (entries_on object ys)
 same_on object xs ys same = on_plain object xs ∙ ap (entries_on object) same ∙ sym (on_plain object ys)
 
+pub same_louds : (object : ℕ) (xs ys : List Entry) → map plain xs ≡ map plain ys → map plain (louds_on object xs) ≡ map plain (louds_on object ys)
+same_louds object xs ys same = loud_plain (entries_on object xs) ∙ ap (filter is_loud) (same_on object xs ys same) ∙ sym (loud_plain (entries_on object ys))
+
+pub same_ends : (parts : List Part) (object : ℕ) (xs ys : List Entry) → map plain xs ≡ map plain ys → (tag_of object xs ≡ tag_of object ys) × (replay parts object xs ≡ replay parts object ys)
+same_ends parts object xs ys same = (
+  sym (tag_plain object xs) ∙ ap (tag_of object) same ∙ tag_plain object ys,
+  sym (replay_plain parts object xs) ∙ ap (replay parts object) same ∙ replay_plain parts object ys,
+)
+
+-- what does not look at callers holds of all entries of both
+module _ (P : Entry → Type 0) (to : (e : Entry) → P e → P (plain e)) (from : (e : Entry) → P (plain e) → P e) where
+  all_plain : (es : List Entry) → AllByRecursion P es → AllByRecursion P (map plain es)
+  all_plain [] h = tt
+  all_plain (e ∷ es) h = (to e h.0, all_plain es h.1)
+
+  plain_all : (es : List Entry) → AllByRecursion P (map plain es) → AllByRecursion P es
+  plain_all [] h = tt
+  plain_all (e ∷ es) h = (from e h.0, plain_all es h.1)
+
+  pub same_all : (xs ys : List Entry) → map plain xs ≡ map plain ys → AllByRecursion P ys → AllByRecursion P xs
+  same_all xs ys same h = plain_all xs (subst (AllByRecursion P) (sym same) (all_plain ys h))
+
 -- the entries of a caller
 abbrev pub is_by : ℕ → Entry → Bool
 is_by caller entry = caller == entry.caller
@@ -100,7 +129,7 @@ calls_of_length caller (e ∷ es) = elim (cases_Bool (caller == e.caller)) [
 
 pub tag_few : (object : ℕ) (es : List Entry) → tag_of object es ≤ length es
 tag_few object [] = omega arith
-tag_few object (e ∷ es) = elim (cases_Bool (object == e.object)) [
+tag_few object (e ∷ es) = elim (cases_Bool ((object == e.object) && is_loud e)) [
   | inl y ↦ rw y (omega (arith, tag_few object es))
   | inr y ↦ rw y (omega (arith, tag_few object es))
 ]

@@ -1,10 +1,12 @@
 -- The history that lanes make of the operations of a set's tasks.
-use Rattle.std.specs.Prelude.{ℕ, ◌≡◌, ◌<◌, List, length, map, sum_by}
+use Rattle.std.specs.Prelude.{ℕ, ◌≡◌, ◌<◌, IsPermutation, List, length, map, sum_by}
+use Rattle.rx_seq.specs.declared.kinds.Part.{Part}
 use Rattle.rx_seq.specs.declared.entries.Entry.{Entry}
+use Rattle.rx_seq.specs.History.{replay, tag_of}
 use Rattle.rx_seq.specs.Legal.{IsLegal}
 use Rattle.rx_set.specs.System.{System, numbers, parts_of}
 use Rattle.rx_set.specs.Operations.{script_of}
-use Rattle.rx_merge.specs.Merged.{entries_on, merged}
+use Rattle.rx_merge.specs.Merged.{entries_on, louds_on, merged}
 use Rattle.rx_lanes.specs.Lists.{IsListOf, plain}
 use Rattle.rx_lanes.specs.Runs.{AreShared, entries_by, lists_in}
 
@@ -18,11 +20,16 @@ pub record Made : Type 0 where
 abbrev pub made_of : System → ℕ → ℕ → List Entry → Made
 made_of system workers jobs history = record { system = system; workers = workers; jobs = jobs; history = history }
 
--- each object has the same entries in both histories, in the same order, but for the callers and their numbers
-abbrev pub HaveSameObjects : List Entry → List Entry → Type 0
-HaveSameObjects history other = (object : ℕ) → map plain (entries_on object history) ≡ map plain (entries_on object other)
+-- each object has the same loud entries in both histories, in the same order, and in all the same entries, but for the callers and their numbers. So in two legal histories the same quiet ones stand between two loud ones: the tag tells where
+pub record HaveSameObjects (history other : List Entry) : Type 0 where
+  pub loud : (object : ℕ) → map plain (louds_on object history) ≡ map plain (louds_on object other)
+  pub all : (object : ℕ) → IsPermutation (map plain (entries_on object history)) (map plain (entries_on object other))
 
--- the calls of the lanes, each of which makes its tasks one after the other, have an order that is legal and has on each object the entries of this history
+-- each object ends with the same tag and in the same state in both histories
+abbrev pub HaveSameEnds : List Part → List Entry → List Entry → Type 0
+HaveSameEnds parts history other = (object : ℕ) → (tag_of object history ≡ tag_of object other) × (replay parts object history ≡ replay parts object other)
+
+-- the calls of the lanes, each of which makes its tasks one after the other, have an order that is legal and has on each object the entries of this history: the loud ones as they stand there, and between two of them the same quiet ones
 pub record CanBeShared (system : System) (workers : ℕ) (history : List Entry) : Type 0 where
   pub order : List Entry
   pub legal : IsLegal (parts_of system) 0 order

@@ -72,12 +72,12 @@ made caller index call value tag = record { caller = caller; index = index; obje
 
 -- the third task's call comes between the two of the first
 abbrev pub order : List Entry
-order = made 0 2 Get 6 3 ∷ made 2 1 (Add 5) 6 2 ∷ made 0 1 (Add 1) 1 1 ∷ []
+order = made 0 2 Get 6 2 ∷ made 2 1 (Add 5) 6 2 ∷ made 0 1 (Add 1) 1 1 ∷ []
 
 abbrev pub lists : List (List Entry)
-lists = (made 0 1 (Add 1) 1 1 ∷ made 0 2 Get 6 3 ∷ []) ∷ [] ∷ (made 2 1 (Add 5) 6 2 ∷ []) ∷ []
+lists = (made 0 1 (Add 1) 1 1 ∷ made 0 2 Get 6 2 ∷ []) ∷ [] ∷ (made 2 1 (Add 5) 6 2 ∷ []) ∷ []
 
-pub oldest_first : entries_by 0 order ≡ made 0 1 (Add 1) 1 1 ∷ made 0 2 Get 6 3 ∷ []
+pub oldest_first : entries_by 0 order ≡ made 0 1 (Add 1) 1 1 ∷ made 0 2 Get 6 2 ∷ []
 oldest_first = refl
 
 pub of_no_caller : entries_by 1 order ≡ []
@@ -95,16 +95,16 @@ lists_of_merged = refl
 
 -- two lanes: seat 0 makes the scripts of the first and of the third task, and its calls are numbered through
 abbrev pub of_seats : List Entry
-of_seats = made 0 3 (Add 5) 6 3 ∷ made 0 2 Get 1 2 ∷ made 0 1 (Add 1) 1 1 ∷ []
+of_seats = made 0 3 (Add 5) 6 2 ∷ made 0 2 Get 1 1 ∷ made 0 1 (Add 1) 1 1 ∷ []
 
 -- in the lists they have their tasks and their numbers in these
 abbrev pub of_tasks : List (List Entry)
-of_tasks = (made 0 1 (Add 1) 1 1 ∷ made 0 2 Get 1 2 ∷ []) ∷ [] ∷ (made 2 1 (Add 5) 6 3 ∷ []) ∷ []
+of_tasks = (made 0 1 (Add 1) 1 1 ∷ made 0 2 Get 1 1 ∷ []) ∷ [] ∷ (made 2 1 (Add 5) 6 2 ∷ []) ∷ []
 
-pub no_caller : plain (made 2 1 (Add 5) 6 3) ≡ made 0 0 (Add 5) 6 3
+pub no_caller : plain (made 2 1 (Add 5) 6 2) ≡ made 0 0 (Add 5) 6 2
 no_caller = refl
 
-pub seats_calls : map plain (entries_by 0 of_seats) ≡ made 0 0 (Add 1) 1 1 ∷ made 0 0 Get 1 2 ∷ made 0 0 (Add 5) 6 3 ∷ []
+pub seats_calls : map plain (entries_by 0 of_seats) ≡ made 0 0 (Add 1) 1 1 ∷ made 0 0 Get 1 1 ∷ made 0 0 (Add 5) 6 2 ∷ []
 seats_calls = refl
 
 pub first_lane_shared : IsShared three 2 of_tasks of_seats 0
@@ -120,5 +120,5 @@ third_lane_shared = refl
 abbrev told : ℕ → ℕ → Answer
 told value tag = record { reply = Done value; tag = tag }
 
-pub first_lane_kept : IsKept three 1 2 of_seats 0 (told 1 1 ∷ told 1 2 ∷ told 6 3 ∷ [])
+pub first_lane_kept : IsKept three 1 2 of_seats 0 (told 1 1 ∷ told 1 1 ∷ told 6 2 ∷ [])
 first_lane_kept = record { calls = refl; told = refl }

@@ -1,7 +1,8 @@
 // Whole runs.
-ghost use Rattle.rx_lanes.specs.Histories.{HaveSameObjects, IsMade, made_of};
+ghost use Rattle.rx_lanes.specs.Histories.{HaveSameEnds, HaveSameObjects, IsMade, made_of};
 ghost use Rattle.rx_lanes.specs.Runs.{AreKept, AreLists, AreShared, items_of, lists_in, table_of};
 ghost use Rattle.rx_merge.specs.Merged.{lists_of as plain_lists, merged};
+ghost use Rattle.rx_set.specs.System.{parts_of};
 ghost use Rattle.rx_table.specs.Closings.{HasEnded};
 ghost use Rattle.std.specs.Prelude.{◌≡◌, ◌≤◌, IfOk, length, reverse};
 
@@ -71,6 +72,7 @@ fn put_together(
     ensures own { IfOk result (λ run. lists_in set.now (reverse run.merged.items) ≡ plain_lists run.lists.items) }
     ensures made { IfOk result (λ run. IsMade (made_of set.now workers jobs (reverse run.merged.items))) }
     ensures objects { IfOk result (λ run. HaveSameObjects (reverse run.merged.items) run.closed.history) }
+    ensures ends { IfOk result (λ run. HaveSameEnds (parts_of set.now) (reverse run.merged.items) run.closed.history) }
 {
     merges_are_histories();
     let lists = lists_of(alloc, set, jobs, workers, answers)?;
@@ -91,13 +93,15 @@ fn put_together(
 /// the library's join, one after the other where no thread can be made.
 ///
 /// The lists have each task's calls with their replies and tags. All lists are one legal history, whatever the threads did:
-/// they are merged into one order, which has of each task its list, and on each object the entries of the closed table in
-/// the same order. The words of that table stand for its own history.
+/// they are merged into one order, which has of each task its list, and on each object the entries of the closed table:
+/// those that raised its tag in the same order, and between two of them the same that changed nothing. So each object ends
+/// with the same tag and in the same state. The words of that table stand for its own history.
 ///
 /// It refuses want of memory alone, and no clause says when. Before the first lane starts it takes the words of the table
 /// with its seats, about 2,600 bytes for each lane, which are its machine, and 16 bytes for each operation; after the last
-/// one has ended a copy of the words, and for each operation an entry in a list and one in the merged order. Its cost is
-/// that of all operations, and of the merged order, which grows with their number times that of the tasks.
+/// one has ended a copy of the words, and for each operation an entry in a list, one in the merged order, and 4 bytes where
+/// it raised a tag. Its cost is that of all operations, and of the merged order, which grows with their number times that
+/// of the tasks.
 pub fn run_lanes<R: Threads + Sync, G: Gate + Sync>(
     rt: &R,
     alloc: Global,
@@ -116,6 +120,7 @@ pub fn run_lanes<R: Threads + Sync, G: Gate + Sync>(
     ensures own { IfOk result (λ run. lists_in set.now (reverse run.merged.items) ≡ plain_lists run.lists.items) }
     ensures made { IfOk result (λ run. IsMade (made_of set.now workers jobs (reverse run.merged.items))) }
     ensures objects { IfOk result (λ run. HaveSameObjects (reverse run.merged.items) run.closed.history) }
+    ensures ends { IfOk result (λ run. HaveSameEnds (parts_of set.now) (reverse run.merged.items) run.closed.history) }
 {
     let (closed, answers) = make_all(rt, alloc, set, workers, jobs, gate)?;
     put_together(alloc, set, workers, jobs, closed, answers.as_slice())

@@ -2,8 +2,8 @@
 use Rattle.std.specs.Prelude.{ℕ, ◌≡◌, ◌<◌, List, [], ◌∷◌, ◌++◌, map, length, reverse, slice_get, Some}
 use Rattle.rx_seq.specs.declared.entries.Entry.{Entry}
 use Rattle.rx_set.specs.declared.items.Item.TheVariants.{Op}
-use Rattle.rx_set.specs.System.{System}
-use Rattle.rx_lanes.specs.Histories.{HaveSameObjects}
+use Rattle.rx_set.specs.System.{System, parts_of}
+use Rattle.rx_lanes.specs.Histories.{HaveSameEnds, HaveSameObjects}
 use Rattle.rx_lanes.specs.Runs.{AreShared, entries_by, lists_in, table_of}
 use Rattle.rx_table.specs.Closings.{Ending, HasEnded}
 use Rattle.rx_report.specs.Lines.{item_of}
@@ -25,9 +25,10 @@ TellsCalls system history =
     (task place : ℕ) (entry : Entry) → task < length system.tasks → slice_get (entries_by task history) place ≡ Some entry
     → item_of system (entry_job system entry) (entry_item system entry) ≡ Some (Op entry.object entry.call)
 
--- The closed table of the lanes: it has the objects of the set and a seat for each lane, and its words stand for its own history. There each seat has the entries of its lane's tasks, but for the callers and their numbers, and each object has those of the history that is told.
+-- The closed table of the lanes: it has the objects of the set and a seat for each lane, and its words stand for its own history. There each seat has the entries of its lane's tasks, but for the callers and their numbers. Each object has those of the history that is told, the loud ones in the same order, and ends with the same tag and in the same state.
 pub record IsTableLeft (system : System) (workers : ℕ) (history : List Entry) (table : Ending) : Type 0 where
   pub layout : table.layout ≡ table_of system workers
   pub ended : HasEnded table
   pub lanes : AreShared system workers (lists_in system history) table.history
   pub objects : HaveSameObjects history table.history
+  pub ends : HaveSameEnds (parts_of system) history table.history

@@ -5,7 +5,7 @@ use Rattle.std.specs.Fmt.{digits}
 use Rattle.rx_seq.specs.declared.kinds.Kind.{Kind}
 use Rattle.rx_seq.specs.declared.kinds.Kind.TheVariants.{Cell, Queue}
 use Rattle.rx_seq.specs.declared.calls.Call.{Call}
-use Rattle.rx_seq.specs.declared.calls.Call.TheVariants.{Add, Put, Take}
+use Rattle.rx_seq.specs.declared.calls.Call.TheVariants.{Get, Add, Put, Take}
 use Rattle.rx_seq.specs.declared.replies.Reply.TheVariants.{Done}
 use Rattle.rx_seq.specs.declared.entries.Entry.{Entry}
 use Rattle.rx_set.specs.declared.policies.Policy.TheVariants.{Rm}
@@ -50,6 +50,15 @@ pub retried_report : concat (report retried 10) ≡
 unfolding digits
 retried_report = refl
 
+-- where a only looks, it spoils no attempt, and raises no tag
+abbrev looked : System
+looked = record retried { tasks = task (codes "a") 10 2 (Op 0 Get ∷ []) ∷ task (codes "b") 20 0 (Work 1 ∷ Op 0 (Add 5) ∷ Work 1 ∷ []) ∷ [] }
+
+pub looked_report : concat (report looked 10) ≡
+    codes "test yes\n0 release b 1\n2 release a 1\n2 preempt b 1 by a 1\n3 reply a 1 1 get c -> done 0 tag 0\n3 finish a 1\n4 reply b 1 2 add c 5 -> done 5 tag 1\n5 finish b 1\nobject c cell tag 1 state 5\ntotal ticks 10 idle 4 released 2 finished 2 replies 2 retries 0 preempted 1 missed 0\n"
+unfolding digits
+looked_report = refl
+
 -- a run of no ticks tells the objects as they are at first
 pub fresh_report : concat (report retried 0) ≡
     codes "test yes\nobject c cell tag 0 state 0\ntotal ticks 0 idle 0 released 0 finished 0 replies 0 retries 0 preempted 0 missed 0\n"
@@ -80,7 +89,7 @@ nested = record {
 }
 
 pub nested_report : concat (report nested 50) ≡
-    codes "test yes\n0 release c 1\n2 release b 1\n2 preempt c 1 by b 1\n4 release a 1\n4 preempt b 1 by a 1\n11 reply a 1 1 put q 7 -> done 1 tag 1\n11 finish a 1\n17 retry b 1 1 q tag 0 now 1\n25 reply b 1 1 take q -> done 7 tag 2\n25 finish b 1\n31 retry c 1 1 q tag 0 now 2\n39 reply c 1 1 take q -> empty tag 3\n39 finish c 1\nobject q queue tag 3 state\ntotal ticks 50 idle 10 released 3 finished 3 replies 3 retries 2 preempted 2 missed 0\n"
+    codes "test yes\n0 release c 1\n2 release b 1\n2 preempt c 1 by b 1\n4 release a 1\n4 preempt b 1 by a 1\n11 reply a 1 1 put q 7 -> done 1 tag 1\n11 finish a 1\n17 retry b 1 1 q tag 0 now 1\n25 reply b 1 1 take q -> done 7 tag 2\n25 finish b 1\n31 retry c 1 1 q tag 0 now 2\n39 reply c 1 1 take q -> empty tag 2\n39 finish c 1\nobject q queue tag 2 state\ntotal ticks 50 idle 10 released 3 finished 3 replies 3 retries 2 preempted 2 missed 0\n"
 unfolding digits
 nested_report = refl
 

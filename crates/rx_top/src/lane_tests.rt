@@ -177,3 +177,29 @@ fn lanes_meet(rt: HostRuntime) -> Result<(), Fail> {
     }
     Ok(())
 }
+
+/// Four tasks that add to a cell and look at it, and take from a queue that stays empty.
+const LOOKS: &str = r#"
+object = [{name="c", kind="cell"}, {name="q", kind="queue", capacity=1}]
+task = [
+  {name="a", period=100, body=["get c", "add c 1", "get c", "take q"]},
+  {name="b", period=100, body=["add c 1", "add c 0", "take q", "get c"]},
+  {name="d", period=100, body=["take q", "get c", "get c", "add c 1"]},
+  {name="e", period=100, body=["swap c 5 5", "add c 1", "take q", "get c"]},
+]
+"#;
+
+#[test]
+fn looks_raise_no_tag(rt: HostRuntime) -> Result<(), Fail> {
+    for words in ["lanes 1 10", "lanes 2 10", "lanes 4 10"] {
+        let ending = answer(&rt, rt.alloc(), &Case::new(words, LOOKS), &NoGate)?;
+        assert_eq!(&rt; ending.status, Status::Done, "{words}");
+        assert!(&rt;
+            ending.taken.as_slice().ends_with(
+                b"object c cell tag 40 state 40\nobject q queue tag 0 state\ntotal calls 160\n"
+            ),
+            "{words}"
+        );
+    }
+    Ok(())
+}

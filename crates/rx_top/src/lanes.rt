@@ -5,7 +5,7 @@ ghost use Rattle.rx_io.specs.Causes.{Puts};
 ghost use Rattle.rx_report.specs.LaneLines.{calls_line, entry_line};
 ghost use Rattle.rx_set.specs.System.{parts_of};
 ghost use Rattle.rx_set.specs.Valid.{IsValid};
-ghost use Rattle.rx_lanes.specs.Histories.{HaveSameObjects};
+ghost use Rattle.rx_lanes.specs.Histories.{HaveSameEnds};
 ghost use Rattle.rx_top.specs.declared.left.Left.TheVariants.{Nothing};
 ghost use Rattle.rx_top.specs.LaneReport.{history_lines, lanes_report};
 ghost use Rattle.rx_top.specs.Outcome.{WritesOneAnswer, lanes_answer};
@@ -69,7 +69,7 @@ fn put_history<K: Sink>(
 ) -> Result<(), Failed>
     requires up { MayBeCalled (K.tells sink.old).failures }
     requires layout { (closed.now.layout.parts ≡ parts_of set.now) × (closed.now.layout.first ≡ 0) }
-    requires objects { HaveSameObjects (reverse entries.now) closed.now.history }
+    requires ends { HaveSameEnds (parts_of set.now) (reverse entries.now) closed.now.history }
     ensures { Puts (K.tells sink.old) (K.tells sink.new) result (history_lines set.now (reverse entries.now)) }
 {
     put_entries(set, entries, line, sink)?;
@@ -88,7 +88,7 @@ fn write_lanes<K: Sink>(
 ) -> Result<(), Failed>
     requires up { MayBeCalled (K.tells sink.old).failures }
     requires layout { (closed.now.layout.parts ≡ parts_of set.now) × (closed.now.layout.first ≡ 0) }
-    requires objects { HaveSameObjects (reverse entries.now) closed.now.history }
+    requires ends { HaveSameEnds (parts_of set.now) (reverse entries.now) closed.now.history }
     ensures { Puts (K.tells sink.old) (K.tells sink.new) result (lanes_report set.now workers jobs (reverse entries.now)) }
 {
     let mut line = Line::new();

@@ -5,7 +5,7 @@ use Rattle.rx_set.specs.System.{part_of_row, parts_of}
 use Rattle.rx_set.specs.View.{object_row}
 use Rattle.rx_merge.specs.Merged.{AreOf, lists_of, merged}
 use Rattle.rx_lanes.specs.Runs.{items_of}
-use Rattle.rx_lanes.proofs.Merging.{IsGathered, gather, by_tasks, are_of, order_own, order_on, order_made}
+use Rattle.rx_lanes.proofs.Merging.{IsGathered, gather, by_tasks, are_of, order_own, order_on, order_ends, order_made}
 use Rattle.rx_lanes.proofs.runs.put_together.Goals as goal
 
 pub merge-requires : goal.merge-requires
@@ -38,7 +38,12 @@ returns-clause-own c = order_own _ _ _ _ _ (gathered c) _ (order_is c) c.merges_
 pub returns-clause-made : goal.returns-clause-made
 returns-clause-made c =
     let law = c.merges_are_histories.ensures in
-    order_made _ _ _ _ _ (gathered c) _ (order_is c) law.callers law.legal law.whole law.objects
+    order_made _ _ _ _ _ (gathered c) _ (order_is c) law.callers law.legal law.whole (order_on _ _ _ _ _ (gathered c) _ (order_is c) law.loud law.all)
 
 pub returns-clause-objects : goal.returns-clause-objects
-returns-clause-objects c = order_on _ _ _ _ _ (gathered c) _ (order_is c) c.merges_are_histories.ensures.objects
+returns-clause-objects c =
+    let law = c.merges_are_histories.ensures in
+    order_on _ _ _ _ _ (gathered c) _ (order_is c) law.loud law.all
+
+pub returns-clause-ends : goal.returns-clause-ends
+returns-clause-ends c = order_ends _ _ _ _ _ (gathered c) _ (order_is c) c.merges_are_histories.ensures.ends

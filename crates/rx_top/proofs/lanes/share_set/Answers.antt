@@ -24,6 +24,6 @@ returns g c =
         written = rw c.as_slice.ensures.value at c.in_ok-write_lanes.ensures;
         valid = c.requires.valid;
         made = is.made;
-        leaves = table_is c.args.set.now c.args.workers (plain_lists run.lists.items) run.merged.items run.closed is.own is.table is.ended is.lanes is.objects;
+        leaves = table_is c.args.set.now c.args.workers (plain_lists run.lists.items) run.merged.items run.closed is.own is.table is.ended is.lanes is.objects is.ends;
       },
     )
