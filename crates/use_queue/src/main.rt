@@ -112,8 +112,8 @@ fn use_queue<R: Threads + Sync>(rt: &R, alloc: Global) -> Result<(Closed, u64, u
     }
 }
 
-/// Prints the queue's tag, which is the number of calls on it, and the sum of the numbers that were put beside that of
-/// the numbers that were taken and those that are left.
+/// Prints how often the queue was changed, which is its tag, with how many numbers are left, and the sum of the numbers
+/// that were put beside that of the numbers that were taken and those that are left.
 fn report(rt: &impl Print, closed: &Closed, put: u64, taken: u64) -> io::Result<()>
     requires { 0 < length closed.now.layout.parts }
 {
@@ -122,7 +122,8 @@ fn report(rt: &impl Print, closed: &Closed, put: u64, taken: u64) -> io::Result<
     let both = state
         .iter()
         .fold(taken, |sum, v| sum.saturating_add(u64::from(*v)));
-    println!(rt; "calls {}", closed.tag(QUEUE))?;
+    let changes = closed.tag(QUEUE).saturating_add(state.len() as u64);
+    println!(rt; "changes and left {changes}")?;
     println!(rt; "put {put}")?;
     println!(rt; "taken and left {both}")
 }
