@@ -13,7 +13,7 @@ use Rattle.rx_tick.specs.Schedule.{Slot, Busy, Decide, Progress, ticked, job_in,
 use Rattle.rx_tick.specs.Laws.{who, so_far, owned, slots_of, IsAmid, IsSpoiled}
 use Rattle.rx_tick.proofs.Prefixes.{slots_count}
 use Rattle.rx_tick.proofs.Choices.{both}
-use Rattle.rx_tick.proofs.Steps.{IsOwn, Goes, Works, Loses, Wins, IsEither, Own, Other, either, own_at, same_self}
+use Rattle.rx_tick.proofs.Steps.{IsOwn, Goes, Works, Loses, Wins, own_at, slot_rule, same_self}
 use Rattle.rx_tick.proofs.Shares.{cost_some}
 
 -- what a job has in hand before slot n was begun in one of its slots, and all its slots since then are in hand
@@ -54,13 +54,6 @@ begun_more system job n m p mine is same_time same_progress before = by_test (p.
 abbrev IsHeld : System → Job → ℕ → Progress → Type 0
 IsHeld system job n p = 1 ≤ p.made → IsBegun system job n p
 
-held_own : (system : System) (job : Job) (n : ℕ) → who system n ≡ Some job → IsOwn system (slots system n) job (slot_at system n) → IsHeld system job n (so_far system job n) → IsHeld system job (suc n) (so_far system job (suc n))
-held_own system job n mine (Goes is some next) before =
-    subst (IsHeld system job (suc n)) (sym next) (λ more. begun_more system job n (length (slots system n)) (so_far system job n) mine is (slots_count system n) refl before)
-held_own system job n mine (Works is all next) before = subst (IsHeld system job (suc n)) (sym next) (λ more. absurd (omega arith))
-held_own system job n mine (Loses object call is item all spoiled next) before = subst (IsHeld system job (suc n)) (sym next) (λ more. absurd (omega arith))
-held_own system job n mine (Wins object call is item all calm next) before = subst (IsHeld system job (suc n)) (sym next) (λ more. absurd (omega arith))
-
 held_other : (system : System) (job : Job) (n : ℕ) (p : Progress) → owned job (who system n) ≡ 0 → IsHeld system job n p → IsHeld system job (suc n) p
 held_other system job n p none before = λ some.
     let h : IsBegun system job n p = before some in
@@ -68,11 +61,12 @@ held_other system job n p none before = λ some.
 
 pub held : (system : System) (job : Job) (n : ℕ) → IsHeld system job n (so_far system job n)
 held system job zero = λ some. absurd (omega arith)
-held system job (suc n) = by_owner (either system n job) (held system job n)
-  where
-    by_owner : IsEither system n job → IsHeld system job n (so_far system job n) → IsHeld system job (suc n) (so_far system job (suc n))
-    by_owner (Own mine own) before = held_own system job n mine own before
-    by_owner (Other not_mine h) before = subst (IsHeld system job (suc n)) (sym h.stays) (held_other system job n (so_far system job n) h.none before)
+held system job (suc n) =
+    slot_rule (IsHeld system job (suc n)) system n job
+    (λ not_mine none. held_other system job n (so_far system job n) none (held system job n))
+    (λ mine is some more. begun_more system job n (length (slots system n)) (so_far system job n) mine is (slots_count system n) refl (held system job n))
+    (λ mine more. absurd (omega arith))
+    (λ mine more. absurd (omega arith))
 
 -- and in each of its slots since the first it goes on
 abbrev GoesOnSince : System → Job → ℕ → Progress → Type 0
@@ -104,13 +98,6 @@ since_more system job n p is same_progress begun before = by_test (p.made == 0) 
     by_test true e = λ more m after early mine. absurd (none_between m after early)
     by_test false e = let some : 1 ≤ p.made = grind (arith, nat_tests) in λ more. by_time some
 
-since_own : (system : System) (job : Job) (n : ℕ) → IsOwn system (slots system n) job (slot_at system n) → GoesOnSince system job n (so_far system job n) → GoesOnSince system job (suc n) (so_far system job (suc n))
-since_own system job n (Goes is some next) before =
-    subst (GoesOnSince system job (suc n)) (ap (λ (k : ℕ). ticked k (so_far system job n)) (sym (slots_count system n)) ∙ sym next) (since_more system job n (so_far system job n) is refl (held system job n) before)
-since_own system job n (Works is all next) before = subst (GoesOnSince system job (suc n)) (sym next) (λ more. absurd (omega arith))
-since_own system job n (Loses object call is item all spoiled next) before = subst (GoesOnSince system job (suc n)) (sym next) (λ more. absurd (omega arith))
-since_own system job n (Wins object call is item all calm next) before = subst (GoesOnSince system job (suc n)) (sym next) (λ more. absurd (omega arith))
-
 since_other : (system : System) (job : Job) (n : ℕ) (p : Progress) → who system n ≢ Some job → GoesOnSince system job n p → GoesOnSince system job (suc n) p
 since_other system job n p not_mine before = λ some m after early mine. elim (dec_le n m) [
   | yes now ↦ let same_time : m ≡ n = omega arith in absurd (not_mine (subst (λ (k : ℕ). who system k ≡ Some job) same_time mine))
@@ -119,11 +106,12 @@ since_other system job n p not_mine before = λ some m after early mine. elim (d
 
 goes_on_since : (system : System) (job : Job) (n : ℕ) → GoesOnSince system job n (so_far system job n)
 goes_on_since system job zero = λ some. absurd (omega arith)
-goes_on_since system job (suc n) = by_owner (either system n job) (goes_on_since system job n)
-  where
-    by_owner : IsEither system n job → GoesOnSince system job n (so_far system job n) → GoesOnSince system job (suc n) (so_far system job (suc n))
-    by_owner (Own mine own) before = since_own system job n own before
-    by_owner (Other not_mine h) before = subst (GoesOnSince system job (suc n)) (sym h.stays) (since_other system job n (so_far system job n) not_mine before)
+goes_on_since system job (suc n) =
+    slot_rule (GoesOnSince system job (suc n)) system n job
+    (λ not_mine none. since_other system job n (so_far system job n) not_mine (goes_on_since system job n))
+    (λ mine is some. subst (λ (k : ℕ). GoesOnSince system job (suc n) (ticked k (so_far system job n))) (sym (slots_count system n)) (since_more system job n (so_far system job n) is refl (held system job n) (goes_on_since system job n)))
+    (λ mine more. absurd (omega arith))
+    (λ mine more. absurd (omega arith))
 
 -- what a slot that decides an attempt says
 pub record IsDecision (system : System) (n : ℕ) (job : Job) (object : ℕ) (outcome : Option Entry) : Type 0 where
@@ -131,6 +119,7 @@ pub record IsDecision (system : System) (n : ℕ) (job : Job) (object : ℕ) (ou
   pub call : Call
   pub asks : item_at system job (so_far system job n).complete ≡ Some (Op object call)
   pub made : (so_far system job n).made + 1 ≡ attempt_cost system object
+  pub makes : (entry : Entry) → outcome ≡ Some entry → entry ≡ entry_after (parts_of system) (history (slots system n)) job.task object call
   pub lost : outcome ≡ None → won_after object (so_far system job n).first (slots system n) ≡ true
   pub spoiled : won_after object (so_far system job n).first (slots system n) ≡ true → outcome ≡ None
 
@@ -157,6 +146,7 @@ decision_is system n job object outcome e = by_own (slot_at system n) e (own_at 
           call = call;
           asks = item ∙ ap (λ (o : ℕ). Some (Op o call)) object_is;
           made = all ∙ ap (attempt_cost system) object_is;
+          makes = λ entry h. absurd (not_won entry outcome h none);
           lost = λ h. ap (λ (o : ℕ). won_after o (so_far system job n).first (slots system n)) (sym object_is) ∙ spoiled;
           spoiled = λ h. none;
         }
@@ -169,6 +159,7 @@ decision_is system n job object outcome e = by_own (slot_at system n) e (own_at 
           call = call;
           asks = item ∙ ap (λ (o : ℕ). Some (Op o call)) object_is;
           made = all ∙ ap (attempt_cost system) object_is;
+          makes = λ made h. let one : made ≡ entry = cc in one ∙ ap (λ (o : ℕ). entry_after (parts_of system) (history (slots system n)) job.task o call) object_is;
           lost = λ h. absurd (not_won entry outcome some h);
           spoiled = λ h. absurd (false≢true (sym calm ∙ ap (λ (o : ℕ). won_after o (so_far system job n).first (slots system n)) object_is ∙ h));
         }
@@ -179,25 +170,15 @@ pub record IsMade (system : System) (n : ℕ) (job : Job) (object : ℕ) (entry 
   pub object_is : entry.object ≡ object
   pub asks : item_at system job (so_far system job n).complete ≡ Some (Op object entry.call)
 
-no_entry : (mine job : Job) (object other : ℕ) (entry : Entry) (slot : Slot) → slot ≡ Decide job object (Some entry) → slot ≡ Decide mine other None → ⊥
-no_entry mine job object other entry slot e f = cc
-
 pub entry_made : (system : System) (n : ℕ) (job : Job) (object : ℕ) (entry : Entry) → slot_at system n ≡ Decide job object (Some entry) → IsMade system n job object entry
-entry_made system n job object entry e = by_own (slot_at system n) e (own_at system n job (ap job_in e))
-  where
-    by_own : (slot : Slot) → slot ≡ Decide job object (Some entry) → IsOwn system (slots system n) job slot → IsMade system n job object entry
-    by_own slot e (Goes is some next) = absurd (not_busy job job object (Some entry) slot e is)
-    by_own slot e (Works is all next) = absurd (not_busy job job object (Some entry) slot e is)
-    by_own slot e (Loses other call is item all spoiled next) = absurd (no_entry job job object other entry slot e is)
-    by_own slot e (Wins other call is item all calm next) =
-        let made : Entry = entry_after (parts_of system) (history (slots system n)) job.task other call in
-        let object_is : other ≡ object = cc in
-        let entry_is : made ≡ entry = cc in
-        record {
-          caller = ap (λ (x : Entry). x.caller) (sym entry_is);
-          object_is = ap (λ (x : Entry). x.object) (sym entry_is) ∙ object_is;
-          asks = item ∙ ap (λ (o : ℕ). Some (Op o call)) object_is ∙ ap (λ (x : Entry). Some (Op object x.call)) entry_is;
-        }
+entry_made system n job object entry e =
+    let is = decision_is system n job object (Some entry) e in
+    let made = is.makes entry refl in
+    record {
+      caller = ap (λ (x : Entry). x.caller) made;
+      object_is = ap (λ (x : Entry). x.object) made;
+      asks = is.asks ∙ ap (λ (x : Entry). Some (Op object x.call)) (sym made);
+    }
 
 -- an attempt that is decided was in hand
 pub decided_begun : (system : System) (n : ℕ) (job : Job) (object : ℕ) (outcome : Option Entry) → slot_at system n ≡ Decide job object outcome → IsBegun system job n (so_far system job n)

@@ -18,17 +18,11 @@ use Rattle.rx_tick.specs.Laws.{so_far, IsPendingAt, IsPreemption}
 use Rattle.rx_tick.specs.Charges.{IsHeld, IsFirstPreemption, of_rank_to, of_rank_below}
 use Rattle.rx_tick.proofs.Choices.{both, who_pending}
 use Rattle.rx_tick.proofs.Preemptions.{preempting_released, preempting_below}
-use Rattle.rx_tick.proofs.EventSums.{counted, at_slot, events_total, IsOnPreemptions, IsOnRetries, HasPreemption, NoPreemption, OnePreemption, preemption_weight, preemption_weighs, HasRetry, NoRetry, OneRetry, retry_weight, release_weighs}
+use Rattle.rx_tick.proofs.EventSums.{counted, at_slot, events_total, IsOnPreemptions, IsOnDecisions, HasPreemption, NoPreemption, OnePreemption, preemption_weight, preemption_value, HasRetry, NoRetry, OneRetry, retry_weight, release_weighs}
 use Rattle.rx_tick.proofs.Charged.{charge_found, charge_once}
 
-retries_alone : (test : Job → Bool) (a b : ℕ) → IsOnRetries (counted (is_retry_in test a b))
-retries_alone test a b = record {
-  miss = λ n job. refl;
-  release = λ n job. refl;
-  preempt = λ n job by. refl;
-  reply = λ n first job item answer tag. refl;
-  finish = λ n job. refl;
-}
+retries_alone : (test : Job → Bool) (a b : ℕ) → IsOnDecisions (counted (is_retry_in test a b))
+retries_alone test a b = record { miss = λ n job. refl; release = λ n job. refl; preempt = λ n job by. refl; finish = λ n job. refl }
 
 preemptions_alone : (test : Job → Bool) (a b : ℕ) → IsOnPreemptions (counted (is_preemption_in test a b))
 preemptions_alone test a b = record {
@@ -68,7 +62,7 @@ pub record CountsRetry (test : Job → Bool) (a b : ℕ) (system : System) (n : 
   pub one : at_slot (counted (is_retry_in test a b)) system n ≡ 1
 
 pub counts_retry : (test : Job → Bool) (a b : ℕ) (system : System) (n : ℕ) → 1 ≤ at_slot (counted (is_retry_in test a b)) system n → CountsRetry test a b system n
-counts_retry test a b system n some = by_weight (retry_weight (counted (is_retry_in test a b)) system n (retries_alone test a b))
+counts_retry test a b system n some = by_weight (retry_weight (counted (is_retry_in test a b)) system n (retries_alone test a b) (λ at first job item answer tag. refl))
   where
     by_test : (job : Job) (object : ℕ) → slot_at system n ≡ Decide job object None → (t : Bool) → (nat_le a (so_far system job n).first && (nat_lt n b && test job)) ≡ t
         → at_slot (counted (is_retry_in test a b)) system n ≡ cond t 1 0 → CountsRetry test a b system n
@@ -112,7 +106,7 @@ pub preemption_counted : (test : Job → Bool) (a b : ℕ) (system : System) (n 
     → 1 ≤ at_slot (counted (is_preemption_in test a b)) system n
 preemption_counted test a b system n job by is from until passes =
     let one : counted (is_preemption_in test a b) (Preempt n job by) ≡ 1 = all_three (nat_lt a n) (nat_lt n b) (test job) (is_less a n from) (is_less n b until) passes in
-    omega (arith, one, preemption_weighs (counted (is_preemption_in test a b)) system n job by is)
+    omega (arith, one, preemption_value (counted (is_preemption_in test a b)) system n job by (preemptions_alone test a b) is)
 
 -- the retry of a slot is charged to the preemption in another
 pub record IsCharged (system : System) (n at : ℕ) : Type 0 where

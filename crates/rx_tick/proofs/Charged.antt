@@ -7,13 +7,13 @@ use Rattle.rx_seq.specs.declared.entries.Entry.{Entry}
 use Rattle.rx_set.specs.declared.jobs.Job.{Job}
 use Rattle.rx_set.specs.System.{System}
 use Rattle.rx_set.specs.Valid.{IsValid}
-use Rattle.rx_tick.specs.Schedule.{Slot, Busy, Decide, Progress, ticked, job_in, wins_on, slots, slot_at}
+use Rattle.rx_tick.specs.Schedule.{Busy, Decide, Progress, completed, lost, ticked, job_in, wins_on, slots, slot_at}
 use Rattle.rx_tick.specs.Laws.{who, so_far, finished_before, IsPendingAt, IsPreemption, IsSpoiled}
 use Rattle.rx_tick.specs.Charges.{IsHeld, IsFirstPreemption}
 use Rattle.rx_tick.proofs.Lists.{some_same}
 use Rattle.rx_tick.proofs.Prefixes.{slots_count}
 use Rattle.rx_tick.proofs.Choices.{who_pending, not_idle}
-use Rattle.rx_tick.proofs.Steps.{IsOwn, Goes, Works, Loses, Wins, IsEither, Own, Other, either, own_at, unfinished_before}
+use Rattle.rx_tick.proofs.Steps.{IsEither, Own, Other, either, after_rule, slot_rule, lost_after, unfinished_before}
 use Rattle.rx_tick.proofs.Shares.{cost_some}
 use Rattle.rx_tick.proofs.Attempts.{IsBegun, held, decision_is, lost_spoiled}
 
@@ -40,18 +40,13 @@ no_hold first p none h = let some = h.0 in omega arith
 
 -- what is in hand after a slot, and was begun before it, was in hand before it
 hold_back : (system : System) (n : ℕ) (job : Job) (first : ℕ) → first < n → HoldsFrom first (so_far system job (suc n)) → HoldsFrom first (so_far system job n)
-hold_back system n job first early h = by_owner (either system n job)
-  where
-    by_own : IsOwn system (slots system n) job (slot_at system n) → HoldsFrom first (so_far system job n)
-    by_own (Goes is some next) =
-        before_tick (length (slots system n)) first (so_far system job n) (omega (arith, slots_count system n)) (subst (HoldsFrom first) next h)
-    by_own (Works is all next) = absurd (no_hold first (so_far system job (suc n)) (ap (λ (p : Progress). p.made) next) h)
-    by_own (Loses object call is item all spoiled next) = absurd (no_hold first (so_far system job (suc n)) (ap (λ (p : Progress). p.made) next) h)
-    by_own (Wins object call is item all calm next) = absurd (no_hold first (so_far system job (suc n)) (ap (λ (p : Progress). p.made) next) h)
-
-    by_owner : IsEither system n job → HoldsFrom first (so_far system job n)
-    by_owner (Own mine own) = by_own own
-    by_owner (Other not_mine other) = subst (HoldsFrom first) other.stays h
+hold_back system n job first early =
+    let p = so_far system job n in
+    after_rule (λ (q : Progress). HoldsFrom first q → HoldsFrom first p) system job (length (slots system n)) (slot_at system n) p
+    (λ h. h)
+    (before_tick (length (slots system n)) first p (omega (arith, slots_count system n)))
+    (λ h. absurd (no_hold first (lost p) refl h))
+    (λ h. absurd (no_hold first (completed p) refl h))
 
 hold_before : (system : System) (job : Job) (first m more : ℕ) → first < m → HoldsFrom first (so_far system job (more + m)) → HoldsFrom first (so_far system job m)
 hold_before system job first m zero early h = let same_time : 0 + m ≡ m = omega arith in subst (λ (k : ℕ). HoldsFrom first (so_far system job k)) same_time h
@@ -78,13 +73,8 @@ held_decided system n job object outcome e = record { some = omega (arith, (deci
 
 -- the slot in which an attempt of a job wins leaves it nothing in hand
 pub winner_ends : (system : System) (n object : ℕ) (job : Job) → who system n ≡ Some job → wins_on object (slot_at system n) ≡ true → (so_far system job (suc n)).made ≡ 0
-winner_ends system n object job mine wins = by_own (own_at system n job mine)
-  where
-    by_own : IsOwn system (slots system n) job (slot_at system n) → (so_far system job (suc n)).made ≡ 0
-    by_own (Goes is some next) = absurd (false≢true (ap (wins_on object) (sym is) ∙ wins))
-    by_own (Works is all next) = ap (λ (p : Progress). p.made) next
-    by_own (Loses other call is item all spoiled next) = ap (λ (p : Progress). p.made) next
-    by_own (Wins other call is item all calm next) = ap (λ (p : Progress). p.made) next
+winner_ends system n object job mine wins =
+    slot_rule (λ (p : Progress). p.made ≡ 0) system n job (λ other none. absurd (other mine)) (λ own is some. absurd (false≢true (ap (wins_on object) (sym is) ∙ wins))) (λ own. refl) (λ own. refl)
 
 -- from a slot of the job's to one that is not, there is a last one up to which all are the job's
 pub record IsGap (system : System) (job : Job) (first n : ℕ) : Type 0 where
@@ -178,16 +168,7 @@ charge_found system n object job valid e =
 
 -- an attempt that is lost leaves its job nothing in hand
 loser_ends : (system : System) (n object : ℕ) (job : Job) → slot_at system n ≡ Decide job object None → (so_far system job (suc n)).made ≡ 0
-loser_ends system n object job e = by_own (own_at system n job (ap job_in e))
-  where
-    not_busy : (slot : Slot) → slot ≡ Decide job object None → slot ≡ Busy job → ⊥
-    not_busy slot e f = cc
-
-    by_own : IsOwn system (slots system n) job (slot_at system n) → (so_far system job (suc n)).made ≡ 0
-    by_own (Goes is some next) = absurd (not_busy (slot_at system n) e is)
-    by_own (Works is all next) = ap (λ (p : Progress). p.made) next
-    by_own (Loses other call is item all spoiled next) = ap (λ (p : Progress). p.made) next
-    by_own (Wins other call is item all calm next) = ap (λ (p : Progress). p.made) next
+loser_ends system n object job e = ap (λ (p : Progress). p.made) (lost_after system (slots system n) job (slot_at system n) object e)
 
 -- of two retries of one attempt the later is no other
 not_later : (system : System) (m n at object : ℕ) (job : Job) (first : ℕ) → slot_at system m ≡ Decide job object None → first < at → at < m → IsHeld system n job first → m < n → ⊥

@@ -9,6 +9,7 @@ pub mod Banks
 pub mod Kept
 pub mod Firsts
 pub mod Prefixes
+pub mod SlotEvents
 pub mod Choices
 pub mod Steps
 pub mod Preemptions
@@ -21,7 +22,6 @@ pub mod Tallies
 pub mod Bodies
 pub mod JobSums
 pub mod StatedTicks
-pub mod Payments
 pub mod Families
 pub mod WindowLaw
 pub mod Moments

@@ -25,8 +25,8 @@ use Rattle.rx_tick.proofs.Shares.{stated_op}
 use Rattle.rx_tick.proofs.Attempts.{decision_is}
 use Rattle.rx_tick.proofs.Preemptions.{preempting_released}
 use Rattle.rx_tick.proofs.JobSums.{jobs_at, jobs_up, jobs_swap, jobs_some}
-use Rattle.rx_tick.proofs.Payments.{at_slot, events_total, valued, IsValued, paid_preemptions}
-use Rattle.rx_tick.proofs.WindowLaw.{where_it, where_true, and_true, is_lower}
+use Rattle.rx_tick.proofs.EventSums.{at_slot, events_total, HasPreemption, NoPreemption, OnePreemption, preemption_weight}
+use Rattle.rx_tick.proofs.WindowLaw.{where_it, where_true, and_true, is_lower, paid_preemptions}
 
 abbrev IsNoneLeft : System → (Job → Bool) → ℕ → Type 0
 IsNoneLeft system family n = (job : Job) → family job ≡ true → IsLeft system n job → ⊥
@@ -105,7 +105,7 @@ charge_released system family test charges a b valid passes =
     omega (
       arith,
       events_total (paid family charges a b) system b,
-      total_up (at_slot (paid family charges a b) system) (λ at. total_jobs system b (λ job. released_at system test charges a b job at)) b (λ at until. slot_released at until (valued (paid family charges a b) (paid_preemptions family charges a b) system at)),
+      total_up (at_slot (paid family charges a b) system) (λ at. total_jobs system b (λ job. released_at system test charges a b job at)) b (λ at until. slot_released at until (preemption_weight (paid family charges a b) system at (paid_preemptions family charges a b))),
       jobs_swap system b b (released_at system test charges a b),
       jobs_up system b (λ job. total (released_at system test charges a b job) b) (λ job. where_it (is_between system test a b job) (charges job.task)) (λ job known. once job),
     )
@@ -149,9 +149,9 @@ charge_released system family test charges a b valid passes =
         time_is : (x y : ℕ) → x ≡ y → (x == y) ≡ true
         time_is x y same = grind (arith, nat_tests)
 
-    slot_released : (at : ℕ) → at < b → IsValued (paid family charges a b) system at → at_slot (paid family charges a b) system at ≤ total_jobs system b (λ job. released_at system test charges a b job at)
-    slot_released at until (inl none) = omega (arith, none)
-    slot_released at until (inr h) = omega (arith, h.3, by_value at h.0 h.1 until h.2 (nat_lt a at && (nat_lt at b && (family h.0 && family h.1))) refl)
+    slot_released : (at : ℕ) → at < b → HasPreemption (paid family charges a b) system at → at_slot (paid family charges a b) system at ≤ total_jobs system b (λ job. released_at system test charges a b job at)
+    slot_released at until (NoPreemption none) = omega (arith, none)
+    slot_released at until (OnePreemption job by is e) = omega (arith, e, by_value at job by until is (nat_lt a at && (nat_lt at b && (family job && family by))) refl)
 
 -- the largest of some numbers
 pub largest_at : (f : ℕ → ℕ) (k n : ℕ) → k < n → f k ≤ largest f n

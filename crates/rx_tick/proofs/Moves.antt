@@ -13,13 +13,13 @@ use Rattle.rx_ledger.specs.declared.events.Event.{Event}
 use Rattle.rx_ledger.specs.declared.events.Event.TheVariants.{Preempt}
 use Rattle.rx_set.specs.Operations.{Asked}
 use Rattle.rx_tick.specs.declared.states.State.{State}
-use Rattle.rx_tick.specs.Schedule.{Slot, Idle, Busy, Decide, Progress, completed, lost, ticked, after, sooner, job_in, same, progress, is_finished, ends_work, decides, tick_in, slot_of, next_slot, slot_at, chosen, slots}
+use Rattle.rx_tick.specs.Schedule.{Slot, Idle, Progress, after, sooner, job_in, same, progress, is_finished, decides, tick_in, slot_of, next_slot, slot_at, chosen, slots}
 use Rattle.rx_tick.specs.Events.{last_job, preempted, decision, finish, finished_in, events_of, misses, releases}
 use Rattle.rx_tick.specs.States.{job, no_state, state_at, progress_of, with_progress, after_slot, IsState, AreStates, IsBeforeDue, AreBeforeDue, AreBeforeRelease, IsOffered, offer, best_of}
 use Rattle.rx_tick.specs.Laws.{who}
 use Rattle.rx_tick.proofs.Lists.{some_same, none_not}
 use Rattle.rx_tick.proofs.Choices.{who_is}
-use Rattle.rx_tick.proofs.Steps.{other_slot}
+use Rattle.rx_tick.proofs.Steps.{after_rule, other_slot}
 use Rattle.rx_tick.proofs.Prefixes.{slots_count}
 use Rattle.rx_tick.proofs.Told.{released_bound}
 use Rattle.rx_tick.proofs.Chosen.{chosen_is, best_offered}
@@ -102,23 +102,7 @@ module _ (system : System) (past : List Slot) (time task : ℕ) (slot : Slot) (s
 
 -- a job has had at most as many ticks as there were slots
 made_after : (system : System) (mine : Job) (n : ℕ) (slot : Slot) (p : Progress) → (after system mine n slot p).made ≤ p.made + 1
-made_after system mine n Idle p = omega arith
-made_after system mine n (Busy other) p = by_test (same other mine) (ends_work (item_at system mine p.complete) p.made)
-  where
-    by_test : (b e : Bool) → (if b then (if e then completed p else ticked n p) else p).made ≤ p.made + 1
-    by_test true true = omega arith
-    by_test true false = omega arith
-    by_test false e = omega arith
-made_after system mine n (Decide other object None) p = by_test (same other mine)
-  where
-    by_test : (b : Bool) → (if b then lost p else p).made ≤ p.made + 1
-    by_test true = omega arith
-    by_test false = omega arith
-made_after system mine n (Decide other object (Some entry)) p = by_test (same other mine)
-  where
-    by_test : (b : Bool) → (if b then completed p else p).made ≤ p.made + 1
-    by_test true = omega arith
-    by_test false = omega arith
+made_after system mine n slot p = after_rule (λ (q : Progress). q.made ≤ p.made + 1) system mine n slot p (omega arith) (omega arith) (omega arith) (omega arith)
 
 pub made_bound : (system : System) (mine : Job) (past : List Slot) → (progress system mine past).made ≤ length past
 made_bound system mine [] = omega arith
@@ -212,23 +196,7 @@ finished_after items s p = by_test (p.complete == items)
 
 -- a slot completes one item at most
 complete_after : (system : System) (mine : Job) (n : ℕ) (slot : Slot) (p : Progress) → (after system mine n slot p).complete ≤ p.complete + 1
-complete_after system mine n Idle p = omega arith
-complete_after system mine n (Busy other) p = by_test (same other mine) (ends_work (item_at system mine p.complete) p.made)
-  where
-    by_test : (b e : Bool) → (if b then (if e then completed p else ticked n p) else p).complete ≤ p.complete + 1
-    by_test true true = omega arith
-    by_test true false = omega arith
-    by_test false e = omega arith
-complete_after system mine n (Decide other object None) p = by_test (same other mine)
-  where
-    by_test : (b : Bool) → (if b then lost p else p).complete ≤ p.complete + 1
-    by_test true = omega arith
-    by_test false = omega arith
-complete_after system mine n (Decide other object (Some entry)) p = by_test (same other mine)
-  where
-    by_test : (b : Bool) → (if b then completed p else p).complete ≤ p.complete + 1
-    by_test true = omega arith
-    by_test false = omega arith
+complete_after system mine n slot p = after_rule (λ (q : Progress). q.complete ≤ p.complete + 1) system mine n slot p (omega arith) (omega arith) (omega arith) (omega arith)
 
 pub idle_slot : (system : System) (past : List Slot) → chosen system past ≡ None → next_slot system past ≡ Idle
 idle_slot system past h = ap (slot_of system past) h

@@ -16,7 +16,7 @@ use Rattle.rx_set.specs.Valid.{IsValid, IsJobOf, IsItem, IsWork}
 use Rattle.rx_tick.specs.Schedule.{Slot, Progress, progress, slots, slot_at}
 use Rattle.rx_tick.specs.Laws.{who, so_far, finished_before, owned, slots_of, asked_by, asked_up_to, lost_in, lost_ticks}
 use Rattle.rx_tick.proofs.Choices.{who_pending}
-use Rattle.rx_tick.proofs.Steps.{IsOwn, Goes, Works, Loses, Wins, IsEither, Own, Other, either, item_in, same_self}
+use Rattle.rx_tick.proofs.Steps.{IsOwn, Goes, Works, Loses, Wins, IsEither, Own, Other, either, item_in, slot_rule, same_self}
 
 -- what the complete items ask for, and what is in hand
 abbrev brought : System → Job → Progress → ℕ
@@ -98,45 +98,33 @@ record IsWithin (system : System) (job : Job) (p : Progress) : Type 0 where
 not_done : (system : System) (job : Job) (n : ℕ) → finished_before system job n ≡ false → (so_far system job n).complete < length (task_of system job).items
 not_done system job n h = grind (arith, nat_tests)
 
-within_own : (system : System) (job : Job) (past : List Slot) (slot : Slot) → IsOwn system past job slot → (progress system job past).complete < length (task_of system job).items
-    → IsWithin system job (progress system job (slot ∷ past))
-within_own system job past slot (Goes is some next) h = subst (IsWithin system job) (sym next) (record { within = omega arith; done = λ all. absurd (omega arith) })
-within_own system job past slot (Works is all next) h = subst (IsWithin system job) (sym next) (record { within = omega arith; done = λ all. refl })
-within_own system job past slot (Loses object call is item all spoiled next) h = subst (IsWithin system job) (sym next) (record { within = omega arith; done = λ all. refl })
-within_own system job past slot (Wins object call is item all calm next) h = subst (IsWithin system job) (sym next) (record { within = omega arith; done = λ all. refl })
-
 within : (system : System) (job : Job) (n : ℕ) → IsWithin system job (so_far system job n)
 within system job zero = record { within = omega arith; done = λ all. refl }
-within system job (suc n) = by_owner (either system n job) (within system job n)
+within system job (suc n) =
+    slot_rule (IsWithin system job) system n job
+    (λ not_mine none. within system job n)
+    (λ mine is some. let h = inside mine in record { within = omega arith; done = λ all. absurd (omega arith) })
+    (λ mine. let h = inside mine in record { within = omega arith; done = λ all. refl })
+    (λ mine. let h = inside mine in record { within = omega arith; done = λ all. refl })
   where
-    by_owner : IsEither system n job → IsWithin system job (so_far system job n) → IsWithin system job (so_far system job (suc n))
-    by_owner (Own mine own) before = within_own system job (slots system n) (slot_at system n) own (not_done system job n (who_pending system n job mine).unfinished)
-    by_owner (Other not_mine h) before = subst (IsWithin system job) (sym h.stays) before
+    inside : who system n ≡ Some job → (so_far system job n).complete < length (task_of system job).items
+    inside mine = not_done system job n (who_pending system n job mine).unfinished
 
 -- what is in hand is less than its item asks for
 abbrev IsSmall : System → Job → Progress → Type 0
 IsSmall system job p = p.complete < length (task_of system job).items → p.made < asked_by system (item_at system job p.complete)
 
-small_own : (system : System) (job : Job) (past : List Slot) (slot : Slot) → IsValid system → IsJobOf system job → IsOwn system past job slot → IsSmall system job (progress system job past)
-    → IsSmall system job (progress system job (slot ∷ past))
-small_own system job past slot valid known (Goes is some next) before = subst (IsSmall system job) (sym next) (λ inside. one_more (before inside) some)
+small : (system : System) (job : Job) (n : ℕ) → IsValid system → IsJobOf system job → IsSmall system job (so_far system job n)
+small system job zero valid known = λ inside. item_some system job 0 valid known inside
+small system job (suc n) valid known =
+    slot_rule (IsSmall system job) system n job
+    (λ not_mine none. small system job n valid known)
+    (λ mine is some inside. one_more (small system job n valid known inside) some)
+    (λ mine inside. item_some system job (so_far system job n).complete valid known inside)
+    (λ mine inside. item_some system job ((so_far system job n).complete + 1) valid known inside)
   where
     one_more : {made asked : ℕ} → made < asked → made + 1 ≢ asked → made + 1 < asked
     one_more h differs = omega arith
-small_own system job past slot valid known (Works is all next) before =
-    subst (IsSmall system job) (sym next) (λ inside. item_some system job ((progress system job past).complete + 1) valid known inside)
-small_own system job past slot valid known (Loses object call is item all spoiled next) before =
-    subst (IsSmall system job) (sym next) (λ inside. item_some system job (progress system job past).complete valid known inside)
-small_own system job past slot valid known (Wins object call is item all calm next) before =
-    subst (IsSmall system job) (sym next) (λ inside. item_some system job ((progress system job past).complete + 1) valid known inside)
-
-small : (system : System) (job : Job) (n : ℕ) → IsValid system → IsJobOf system job → IsSmall system job (so_far system job n)
-small system job zero valid known = λ inside. item_some system job 0 valid known inside
-small system job (suc n) valid known = by_owner (either system n job) (small system job n valid known)
-  where
-    by_owner : IsEither system n job → IsSmall system job (so_far system job n) → IsSmall system job (so_far system job (suc n))
-    by_owner (Own mine own) before = small_own system job (slots system n) (slot_at system n) valid known own before
-    by_owner (Other not_mine h) before = subst (IsSmall system job) (sym h.stays) before
 
 up_more : (system : System) (job : Job) (m more : ℕ) → asked_up_to system job m ≤ asked_up_to system job (more + m)
 up_more system job m zero =

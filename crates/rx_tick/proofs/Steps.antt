@@ -25,25 +25,29 @@ same_is a b h =
     let two : ℕ → Job = λ x. record { task = b.task; number = x } in
     ap one tasks ∙ ap two numbers
 
+-- what holds of a job's progress, and of it with one more tick, with its attempt lost and with its item complete, holds after each slot
+pub after_rule : (Q : Progress → Type 0) (system : System) (job : Job) (n : ℕ) (slot : Slot) (p : Progress) → Q p → Q (ticked n p) → Q (lost p) → Q (completed p) → Q (after system job n slot p)
+after_rule Q system job n Idle p stays ticks loses completes = stays
+after_rule Q system job n (Busy other) p stays ticks loses completes = by_test (same other job) (ends_work (item_at system job p.complete) p.made)
+  where
+    by_test : (mine ends : Bool) → Q (if mine then (if ends then completed p else ticked n p) else p)
+    by_test true true = completes
+    by_test true false = ticks
+    by_test false ends = stays
+after_rule Q system job n (Decide other object None) p stays ticks loses completes = by_test (same other job)
+  where
+    by_test : (mine : Bool) → Q (if mine then lost p else p)
+    by_test true = loses
+    by_test false = stays
+after_rule Q system job n (Decide other object (Some entry)) p stays ticks loses completes = by_test (same other job)
+  where
+    by_test : (mine : Bool) → Q (if mine then completed p else p)
+    by_test true = completes
+    by_test false = stays
+
 -- complete items stay so
 complete_more : (system : System) (job : Job) (n : ℕ) (slot : Slot) (p : Progress) → p.complete ≤ (after system job n slot p).complete
-complete_more system job n Idle p = omega arith
-complete_more system job n (Busy other) p = by_test (same other job) (ends_work (item_at system job p.complete) p.made)
-  where
-    by_test : (mine ends : Bool) → p.complete ≤ (if mine then (if ends then completed p else ticked n p) else p).complete
-    by_test true true = omega arith
-    by_test true false = omega arith
-    by_test false ends = omega arith
-complete_more system job n (Decide other object None) p = by_test (same other job)
-  where
-    by_test : (mine : Bool) → p.complete ≤ (if mine then lost p else p).complete
-    by_test true = omega arith
-    by_test false = omega arith
-complete_more system job n (Decide other object (Some entry)) p = by_test (same other job)
-  where
-    by_test : (mine : Bool) → p.complete ≤ (if mine then completed p else p).complete
-    by_test true = omega arith
-    by_test false = omega arith
+complete_more system job n slot p = after_rule (λ (q : Progress). p.complete ≤ q.complete) system job n slot p (omega arith) (omega arith) (omega arith) (omega arith)
 
 complete_later : (system : System) (job : Job) (n more : ℕ) → (so_far system job n).complete ≤ (so_far system job (more + n)).complete
 complete_later system job n zero =
@@ -107,7 +111,7 @@ module _ (system : System) (past : List Slot) (job : Job) where
       ∙ ap (λ (b : Bool). if b then (if ends_work (item_in system past job) (made_in system past job) then completed (progress system job past) else ticked (length past) (progress system job past)) else progress system job past) (same_self job)
       ∙ ap (λ (b : Bool). if b then completed (progress system job past) else ticked (length past) (progress system job past)) f
 
-  lost_after : (slot : Slot) (object : ℕ) → slot ≡ Decide job object None → progress system job (slot ∷ past) ≡ lost (progress system job past)
+  pub lost_after : (slot : Slot) (object : ℕ) → slot ≡ Decide job object None → progress system job (slot ∷ past) ≡ lost (progress system job past)
   lost_after slot object e =
       ap (λ (s : Slot). progress system job (s ∷ past)) e ∙ ap (λ (b : Bool). if b then lost (progress system job past) else progress system job past) (same_self job)
 
@@ -203,3 +207,19 @@ either system n job = by_owner (who system n) refl
     by_owner None e =
         Other (λ f. none_not job (sym e ∙ f)) (other_slot system (slots system n) job (slot_at system n) (λ x f. absurd (none_not x (sym e ∙ f))))
     by_owner (Some other) e = by_same other e (same other job) refl
+
+-- the same of the slots of a schedule, with what a slot of the job is
+pub slot_rule : (Q : Progress → Type 0) (system : System) (n : ℕ) (job : Job) → (who system n ≢ Some job → owned job (who system n) ≡ 0 → Q (so_far system job n))
+    → (who system n ≡ Some job → slot_at system n ≡ Busy job → made_in system (slots system n) job + 1 ≢ asked_by system (item_in system (slots system n) job) → Q (ticked (length (slots system n)) (so_far system job n)))
+    → (who system n ≡ Some job → Q (lost (so_far system job n))) → (who system n ≡ Some job → Q (completed (so_far system job n))) → Q (so_far system job (suc n))
+slot_rule Q system n job stays ticks loses completes = by_owner (either system n job)
+  where
+    by_own : who system n ≡ Some job → IsOwn system (slots system n) job (slot_at system n) → Q (so_far system job (suc n))
+    by_own mine (Goes is some next) = subst Q (sym next) (ticks mine is some)
+    by_own mine (Works is all next) = subst Q (sym next) (completes mine)
+    by_own mine (Loses object call is item all spoiled next) = subst Q (sym next) (loses mine)
+    by_own mine (Wins object call is item all calm next) = subst Q (sym next) (completes mine)
+
+    by_owner : IsEither system n job → Q (so_far system job (suc n))
+    by_owner (Own mine own) = by_own mine own
+    by_owner (Other not_mine h) = subst Q (sym h.stays) (stays not_mine h.none)

@@ -19,7 +19,7 @@ use Rattle.rx_tick.proofs.Attempts.{IsBegun, decision_is, decided_begun, lost_sp
 use Rattle.rx_tick.proofs.Charged.{charge_found, charge_once, held_decided}
 use Rattle.rx_tick.proofs.JobSums.{jobs_same, jobs_plus, jobs_at, jobs_above, jobs_only, jobs_swap, jobs_some}
 use Rattle.rx_tick.proofs.StatedTicks.{few_slots, fewer_slots}
-use Rattle.rx_tick.proofs.Payments.{at_slot, events_total, preemption_value, paid_preemptions}
+use Rattle.rx_tick.proofs.EventSums.{at_slot, events_total, IsOnPreemptions, preemption_value}
 use Rattle.rx_tick.proofs.Families.{released_since, preempting_family, window_slots}
 
 -- a value that counts only where a test passes
@@ -110,11 +110,20 @@ to_one : (system : System) (m n at : ℕ) → IsValid system → IsChargedTo sys
 to_one system m n at valid h g =
     charge_once system m n at h.object g.object h.job g.job h.by g.by valid h.loses g.loses h.later g.later h.first h.held g.first g.held
 
+pub paid_preemptions : (family : Job → Bool) (charges : ℕ → ℕ) (a b : ℕ) → IsOnPreemptions (paid family charges a b)
+paid_preemptions family charges a b = record {
+  miss = λ n job. refl;
+  release = λ n job. refl;
+  reply = λ n first job item answer tag. refl;
+  retry = λ n first job item expected found. refl;
+  finish = λ n job. refl;
+}
+
 -- a preemption among the family in the window is paid with the charge of the task that makes it
 pub paid_at : (system : System) (family : Job → Bool) (charges : ℕ → ℕ) (a b at : ℕ) (job by : Job) → IsPreemption system at job by → a < at → at < b → family job ≡ true → family by ≡ true
     → charges by.task ≡ at_slot (paid family charges a b) system at
 paid_at system family charges a b at job by h from until mine its =
-    sym (preemption_value (paid family charges a b) (paid_preemptions family charges a b) system at job by h
+    sym (preemption_value (paid family charges a b) system at job by (paid_preemptions family charges a b) h
     ∙ where_true (nat_lt a at && (nat_lt at b && (family job && family by))) (charges by.task)
     (and_true (nat_lt a at) (nat_lt at b && (family job && family by)) (lt-ltb a at from)
     (and_true (nat_lt at b) (family job && family by) (lt-ltb at b until) (and_true (family job) (family by) mine its))))

@@ -1,11 +1,12 @@
-use Rattle.rx_tick.proofs.Preemptions.{told_true, true_told, preempting_released, preempting_below}
+use Rattle.rx_tick.proofs.Decisions.{preemption_true, true_preemption}
+use Rattle.rx_tick.proofs.Preemptions.{preempting_released, preempting_below}
 use Rattle.rx_tick.proofs.laws.preemptions_are_releases.Goals as goal
 
 pub returns-clause-told : goal.returns-clause-told
-returns-clause-told c = λ system n at job by. (told_true system n at job by, λ h. true_told system n at job by h.0 h.1)
+returns-clause-told c = λ system n at job by. (preemption_true system n at job by, λ h. true_preemption system n at job by h.0 h.1)
 
 pub returns-clause-released : goal.returns-clause-released
-returns-clause-released c = λ system n at job by valid h. preempting_released system at job by valid (told_true system n at job by h).1
+returns-clause-released c = λ system n at job by valid h. preempting_released system at job by valid (preemption_true system n at job by h).1
 
 pub returns-clause-below : goal.returns-clause-below
-returns-clause-below c = λ system n at job by valid h. preempting_below system at job by valid (told_true system n at job by h).1
+returns-clause-below c = λ system n at job by valid h. preempting_below system at job by valid (preemption_true system n at job by h).1
