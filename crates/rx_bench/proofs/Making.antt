@@ -39,17 +39,17 @@ module _ (l : Layout) (before middle now : View) (object : ℕ) (call : Call) (m
   -- one more was made
   pub one_more : (reply : Reply) (tag lost sum : ℕ) → IsDone l middle now object call reply tag lost → sum ≤ retries + lost → HasMade before now (made + 1) sum
   one_more reply tag lost sum h few =
-      let k : h.known ≡ w.after = same_known middle h.known w.after h.is w.after_is in
-      let entry : Entry = entry_for l (h.between ++ h.known.seen) middle.number object call in
+      let k : h.more.known ≡ w.after = same_known middle h.more.known w.after h.more.is w.after_is in
+      let entry : Entry = entry_for l h.more.history middle.number object call in
       let many = w.many in
       let a = h.exchanges in
       let b = w.exchanges in
-      let same : h.known.exchanges ≡ w.after.exchanges = ap (λ (x : Known). x.exchanges) k in
+      let same : h.more.known.exchanges ≡ w.after.exchanges = ap (λ (x : Known). x.exchanges) k in
       record {
         known = w.known;
         is = w.is;
-        after = h.after;
-        after_is = h.after_is;
+        after = h.more.after;
+        after_is = h.more.after_is;
         entries = entry ∷ w.entries;
         mine = h.mine ∙ ap (λ (x : Known). entry ∷ x.mine) k ∙ ap (λ (xs : List Entry). entry ∷ xs) w.mine;
         many = omega arith;
@@ -59,15 +59,15 @@ module _ (l : Layout) (before middle now : View) (object : ℕ) (call : Call) (m
   -- none was made, since the tags are spent
   pub none_more : (tag lost : ℕ) → IsSpent l middle now object call tag lost → HasMade before now made retries
   none_more tag lost h =
-      let k : h.known ≡ w.after = same_known middle h.known w.after h.is w.after_is in
+      let k : h.more.known ≡ w.after = same_known middle h.more.known w.after h.more.is w.after_is in
       let a = h.exchanges in
       let b = w.exchanges in
-      let same : h.known.exchanges ≡ w.after.exchanges = ap (λ (x : Known). x.exchanges) k in
+      let same : h.more.known.exchanges ≡ w.after.exchanges = ap (λ (x : Known). x.exchanges) k in
       record {
         known = w.known;
         is = w.is;
-        after = h.after;
-        after_is = h.after_is;
+        after = h.more.after;
+        after_is = h.more.after_is;
         entries = w.entries;
         mine = h.mine ∙ ap (λ (x : Known). x.mine) k ∙ w.mine;
         many = w.many;

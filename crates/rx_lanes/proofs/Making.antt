@@ -89,23 +89,23 @@ module _ (board : Board) (before now : Lane) (object : ℕ) (call : Call) (ours 
   made_one : (reply : Reply) (tag lost : ℕ) → now.answers.items ≡ before.answers.items ++ record { reply = reply; tag = tag } ∷ [] → IsDone board.layout before.seat.view now.seat.view object call reply tag lost
       → (script : List Asked) → HasMade board script before → HasMade board (script ++ asked object call ∷ []) now
   made_one reply tag lost told d script h =
-      let k : d.known ≡ h.known = same_known before.seat.view d.known h.known d.is h.is in
-      let entry : Entry = entry_for board.layout (d.between ++ d.known.seen) before.seat.view.number object call in
-      let mine : d.after.mine ≡ entry ∷ h.known.mine = d.mine ∙ ap (λ (x : Known). entry ∷ x.mine) k in
+      let k : d.more.known ≡ h.known = same_known before.seat.view d.more.known h.known d.more.is h.is in
+      let entry : Entry = entry_for board.layout d.more.history before.seat.view.number object call in
+      let mine : d.more.after.mine ≡ entry ∷ h.known.mine = d.mine ∙ ap (λ (x : Known). entry ∷ x.mine) k in
       let answer : answer_of entry ≡ record { reply = reply; tag = tag } = ap₂ (λ (r : Reply) (t : ℕ). record { reply = r; tag = t }) (sym d.reply_is) (sym d.tag_is) in
       let few = h.few in
-      let one : length d.after.mine ≡ length h.known.mine + 1 = ap length mine ∙ omega arith in
+      let one : length d.more.after.mine ≡ length h.known.mine + 1 = ap length mine ∙ omega arith in
       record {
-        number = d.number ∙ h.number ∙ sym number;
-        known = d.after;
-        is = d.after_is;
+        number = d.more.number ∙ h.number ∙ sym number;
+        known = d.more.after;
+        is = d.more.after_is;
         answers = ap (λ (xs : List Entry). map answer_of (reverse xs)) mine ∙ last_more answer_of entry h.known.mine ∙ ap₂ (λ (xs : List Answer) (x : Answer). xs ++ x ∷ []) h.answers answer ∙ sym told;
         few = omega (arith, one, few, length-append script (asked object call ∷ []));
         all = elim h.all [
           | inl same ↦ inl (ap (λ (xs : List Entry). map asked_of (reverse xs)) mine ∙ last_more asked_of entry h.known.mine ∙ ap (λ (xs : List Asked). xs ++ asked object call ∷ []) same)
           | inr spent ↦
-              let seen : HasSpent board.layout d.known.seen = subst (λ (x : Known). HasSpent board.layout x.seen) (sym k) spent in
-              inr (subst (HasSpent board.layout) (sym d.seen) (spent_stays board.layout (entry ∷ d.between) d.known.seen seen))
+              let seen : HasSpent board.layout d.more.known.seen = subst (λ (x : Known). HasSpent board.layout x.seen) (sym k) spent in
+              inr (subst (HasSpent board.layout) (sym (d.seen ∙ ap (λ (xs : List Entry). entry ∷ xs) d.more.history_is)) (spent_stays board.layout (entry ∷ d.more.between) d.more.known.seen seen))
         ];
       }
 
@@ -122,15 +122,15 @@ module _ (board : Board) (before now : Lane) (object : ℕ) (call : Call) (ours 
   made_none : (tag lost : ℕ) → now.answers.items ≡ before.answers.items → IsSpent board.layout before.seat.view now.seat.view object call tag lost
       → (script : List Asked) → HasMade board script before → HasMade board (script ++ asked object call ∷ []) now
   made_none tag lost told d script h =
-      let k : d.known ≡ h.known = same_known before.seat.view d.known h.known d.is h.is in
-      let mine : d.after.mine ≡ h.known.mine = d.mine ∙ ap (λ (x : Known). x.mine) k in
+      let k : d.more.known ≡ h.known = same_known before.seat.view d.more.known h.known d.more.is h.is in
+      let mine : d.more.after.mine ≡ h.known.mine = d.mine ∙ ap (λ (x : Known). x.mine) k in
       let few = h.few in
       let last = d.last in
       let tag_is = d.tag_is in
       record {
-        number = d.number ∙ h.number ∙ sym number;
-        known = d.after;
-        is = d.after_is;
+        number = d.more.number ∙ h.number ∙ sym number;
+        known = d.more.after;
+        is = d.more.after_is;
         answers = ap (λ (xs : List Entry). map answer_of (reverse xs)) mine ∙ h.answers ∙ sym told;
         few = omega (arith, ap length mine, few, length-append script (asked object call ∷ []));
         all = inr (object, omega (arith, last, tag_is));

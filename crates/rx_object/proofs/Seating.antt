@@ -17,13 +17,13 @@ use Rattle.rx_object.specs.Calls.{Tells, TellsAll}
 
 -- a seat keeps its number
 pub number_tried : (l : Layout) (before now : View) (object : ℕ) (call : Call) (result : Try) → Tells l before now object call result → now.number ≡ before.number
-number_tried l before now object call (Done reply tag) h = h.number
-number_tried l before now object call (Lost expected found) h = h.waited.number
-number_tried l before now object call (Spent tag) h = h.number
+number_tried l before now object call (Done reply tag) h = h.more.number
+number_tried l before now object call (Lost expected found) h = h.waited.more.number
+number_tried l before now object call (Spent tag) h = h.more.number
 
 pub number_called : (l : Layout) (before now : View) (object : ℕ) (call : Call) (result : Outcome) → TellsAll l before now object call result → now.number ≡ before.number
-number_called l before now object call (AllDone reply tag retries) h = h.number
-number_called l before now object call (AllSpent tag) h = h.1.number
+number_called l before now object call (AllDone reply tag retries) h = h.more.number
+number_called l before now object call (AllSpent tag) h = h.1.more.number
 
 pub seat_there : (board : Board) (seats : List Sitting) (n : ℕ) (old : Sitting) → AreSeats board seats → n < length seats → old ≡ get_or seats n old → IsSeatOf board old
 seat_there board seats n old h below here = (h.each n old (at_index seats n old below here)).0

@@ -1,5 +1,5 @@
 -- What the steps of an attempt make of the seat.
-use Rattle.std.proofs.Common.{◌≡◌, ◌≢◌, ℕ, ◌+◌, ◌<◌, ◌≤◌, ◌^◌, Bool, true, false, List, [], ◌∷◌, ◌++◌, length, refl, sym, ap, ◌∙◌, subst, ◌⊎◌, ⊎_elim, arith}
+use Rattle.std.proofs.Common.{◌≡◌, ◌≢◌, ℕ, ◌+◌, ◌<◌, ◌≤◌, ◌^◌, Bool, true, false, List, [], ◌∷◌, length, refl, sym, ap, ◌∙◌, subst, ◌⊎◌, ⊎_elim, arith}
 use Rattle.std.specs.Prelude.{◌==◌, Option, Some, None, option_map}
 use Rattle.std.proofs.lemmas.Bool.{eq-eqb, ne_eqb}
 use Rattle.rx_seq.specs.declared.calls.Call.{Call}
@@ -24,7 +24,7 @@ use Rattle.rx_table.specs.Boards.{Board, Sitting, IsSeatOf}
 use Rattle.rx_table.specs.Seats.{Keeps}
 use Rattle.rx_machine.specs.Operations.{Progress, Operation, attempt_for, lost}
 use Rattle.rx_machine.specs.Steps.{Loads, Spends, Reads, Writes, Wins, Loses}
-use Rattle.rx_object.specs.Calls.{exchange, IsDone, IsLost, IsSpent}
+use Rattle.rx_object.specs.Calls.{exchange, HasSeenMore, IsDone, IsLost, IsSpent}
 use Rattle.rx_object.proofs.Entries.{none_between, none_newer, count-append, older_trans}
 
 -- an attempt was begun: the seat has seen a longer history, and nothing else it has changed
@@ -49,6 +49,23 @@ known_found l stood v core es k h is = some_here (λ (x : Known). IsKnown es v.n
 -- no entry is of a seat that the table has not
 none_past : (l : Layout) (stood : Core → Type 0) (v : View) (core : Core) (es : List Entry) → Found l stood v core es → (seat : ℕ) → l.seats ≤ seat → entries_of seat es ≡ []
 none_past l stood v core es h seat past = let few = h.lawful.few in h.lawful.made seat (omega arith)
+
+-- the seat has seen a longer history, in which it made nothing since
+abbrev seen_since : (l : Layout) (object : ℕ) (before v w : View) (root : ℕ) (h : Opened l object before v root) (history : List Entry) (after : Known) (lost : ℕ) (older : IsOlder h.known.seen history) → h.known.mine ≡ entries_of before.number history
+    → ((seat : ℕ) → l.seats ≤ seat → entries_of seat history ≡ []) → w.known ≡ Some after → w.number ≡ v.number → lost ≤ count_loud object older.0 → HasSeenMore l before w object lost
+seen_since l object before v w root h history after lost older mine past after_is number many = record {
+  known = h.known;
+  is = h.is;
+  after = after;
+  after_is = after_is;
+  between = older.0;
+  history = history;
+  history_is = older.1;
+  others = none_between before.number older.0 h.known.seen (ap (entries_of before.number) (sym older.1) ∙ sym mine ∙ h.all_mine);
+  seated = λ seat beyond. none_newer seat older.0 h.known.seen (ap (entries_of seat) (sym older.1) ∙ past seat beyond);
+  many = many;
+  number = number ∙ h.number;
+}
 
 module _ (l : Layout) (stood stands : Core → Type 0) where
   pub opened_from : (v w : View) (object : ℕ) (call : Call) (root : ℕ) → object < length l.parts → Keeps v → Begun l stood stands v w object call root → Opened l object v w root
@@ -85,25 +102,9 @@ module _ (l : Layout) (stood stands : Core → Type 0) where
   }
 
   -- a decide that follows: the seat had seen the beginning of the history that it finds, in which it made nothing since
-  pub record Grown (before : View) (known : Known) (history : List Entry) : Type 0 where
-    pub between : List Entry
-    pub history_is : history ≡ between ++ known.seen
-    pub others : entries_of before.number between ≡ []
-    pub seated : (seat : ℕ) → l.seats ≤ seat → entries_of seat between ≡ []
-    pub mine : known.mine ≡ entries_of before.number history
-
-  pub grown_from : (object : ℕ) (before v : View) (root : ℕ) (h : Opened l object before v root) (core : Core) (es : List Entry) → Found l stood v core es → Grown before h.known es
+  grown_from : (object : ℕ) (before v : View) (root : ℕ) (h : Opened l object before v root) (core : Core) (es : List Entry) → Found l stood v core es → IsOlder h.known.seen es × (h.known.mine ≡ entries_of before.number es)
   grown_from object before v root h core es f =
-      let k = known_found l stood v core es (begun_known h.history h.known) f h.now_is in
-      let older = older_trans h.known.seen h.history es h.seen k.seen in
-      let mine : h.known.mine ≡ entries_of before.number es = k.mine ∙ ap (λ (n : ℕ). entries_of n es) h.number in
-      record {
-        between = older.0;
-        history_is = older.1;
-        others = none_between before.number older.0 h.known.seen (ap (entries_of before.number) (sym older.1) ∙ sym mine ∙ h.all_mine);
-        seated = λ seat past. none_newer seat older.0 h.known.seen (ap (entries_of seat) (sym older.1) ∙ none_past l stood v core es f seat past);
-        mine = mine;
-      }
+      let k = known_found l stood v core es (begun_known h.history h.known) f h.now_is in (older_trans h.known.seen h.history es h.seen k.seen, k.mine ∙ ap (λ (n : ℕ). entries_of n es) h.number)
 
   -- the exchange found the expected root
   pub done_from : (object : ℕ) (call : Call) (before v w : View) (a : Attempt) (new found : ℕ) (pairs : List Pair) (reply : Reply) (tag : ℕ) (h : Opened l object before v a.expected) → tag_of a.expected + 1 < 2 ^ 40
@@ -111,31 +112,21 @@ module _ (l : Layout) (stood stands : Core → Type 0) where
       → reply ≡ (entry_for l e.history v.number object call).reply → tag ≡ (entry_for l e.history v.number object call).tag → IsDone l before w object call reply tag 0
   done_from object call before v w a new found pairs reply tag h room e on asked same reply_is tag_is =
       let g = grown_from object before v a.expected h e.core e.history e.found in
-      let entry : List Entry → Entry = λ es. entry_for l es before.number object call in
       let won : (found == a.expected) ≡ true = eq-eqb found a.expected same in
+      let entry : Entry = entry_for l e.history before.number object call in
       let x : Entry = entry_for l e.history v.number a.object a.call in
-      let x_is : x ≡ entry e.history = (λ k. entry_for l e.history (h.number k) (on k) (asked k)) in
+      let x_is : x ≡ entry = (λ k. entry_for l e.history (h.number k) (on k) (asked k)) in
       let z : Exchange = exchange_of a found in
       let known_is : w.known ≡ Some (decided_known true e.history x z (begun_known h.history h.known)) =
       ap (λ (y : View). y.known) e.view_is ∙ ap (λ (b : Bool). option_map (decided_known b e.history x z) v.known) won ∙ ap (option_map (decided_known true e.history x z)) h.now_is in
-      let later : entry e.history ≡ entry (g.between ++ h.known.seen) = ap entry g.history_is in
-      let seen : (x ∷ e.history) ≡ entry (g.between ++ h.known.seen) ∷ g.between ++ h.known.seen = (λ k. (x_is ∙ later) k ∷ g.history_is k) in
-      let mine : (x ∷ h.known.mine) ≡ entry (g.between ++ h.known.seen) ∷ h.known.mine = ap (λ (y : Entry). y ∷ h.known.mine) (x_is ∙ later) in
       record {
-        known = h.known;
-        is = h.is;
-        after = decided_known true e.history x z (begun_known h.history h.known);
-        after_is = known_is;
-        between = g.between;
-        seen = seen;
-        reply_is = reply_is ∙ ap (λ (n : ℕ). (entry_for l e.history n object call).reply) h.number ∙ ap (λ (y : Entry). y.reply) later;
-        tag_is = tag_is ∙ ap (λ (n : ℕ). (entry_for l e.history n object call).tag) h.number ∙ ap (λ (y : Entry). y.tag) later;
+        more = seen_since l object before v w a.expected h e.history (decided_known true e.history x z (begun_known h.history h.known)) 0 g.0 g.1 (none_past l stood v e.core e.history e.found) known_is (ap (λ (y : View). y.number) e.view_is) (omega arith);
+        seen = ap (λ (y : Entry). y ∷ e.history) x_is;
+        reply_is = reply_is ∙ ap (λ (n : ℕ). (entry_for l e.history n object call).reply) h.number;
+        tag_is = tag_is ∙ ap (λ (n : ℕ). (entry_for l e.history n object call).tag) h.number;
         legal = legal_more l e.history v.number a.object a.call e.found.lawful.legal;
-        others = g.others;
-        seated = g.seated;
-        many = omega arith;
-        mine = mine;
-        all_mine = ap (λ (y : Entry). y ∷ h.known.mine) x_is ∙ ap (λ (ys : List Entry). entry e.history ∷ ys) g.mine ∙ sym (mine_here l e.history before.number object call)
+        mine = ap (λ (y : Entry). y ∷ h.known.mine) x_is;
+        all_mine = ap (λ (y : Entry). y ∷ h.known.mine) x_is ∙ ap (λ (ys : List Entry). entry ∷ ys) g.1 ∙ sym (mine_here l e.history before.number object call)
             ∙ ap (λ (y : Entry). entries_of before.number (y ∷ e.history)) (sym x_is);
         begins = omega arith;
         exchanges = omega arith;
@@ -143,7 +134,6 @@ module _ (l : Layout) (stood stands : Core → Type 0) where
         latest = ap (λ (n : ℕ). Some (exchange n a.expected found)) on ∙ ap (λ (n : ℕ). Some (exchange object a.expected n)) same;
         room = room;
         closed = ap (λ (y : View). y.attempt) e.view_is;
-        number = ap (λ (y : View). y.number) e.view_is ∙ h.number;
       }
 
   -- it found another one
@@ -157,27 +147,19 @@ module _ (l : Layout) (stood stands : Core → Type 0) where
       let z : Exchange = exchange_of a found in
       let known_is : w.known ≡ Some (decided_known false e.history x z (begun_known h.history h.known)) =
       ap (λ (y : View). y.known) e.view_is ∙ ap (λ (b : Bool). option_map (decided_known b e.history x z) v.known) lose ∙ ap (option_map (decided_known false e.history x z)) h.now_is in
-      let counts : count_loud object e.history ≡ count_loud object g.between + count_loud object h.known.seen = ap (count_loud object) g.history_is ∙ count-append object g.between h.known.seen in
+      let counts : count_loud object e.history ≡ count_loud object g.0.0 + count_loud object h.known.seen = ap (count_loud object) g.0.1 ∙ count-append object g.0.0 h.known.seen in
       let earlier : count_loud object h.history ≡ count_loud object h.seen.0 + count_loud object h.known.seen = ap (count_loud object) h.seen.1 ∙ count-append object h.seen.0 h.known.seen in
       let first = h.tag in
       let own : w.own ≡ v.own = ap (λ (y : View). y.own) e.view_is ∙ ap (λ (b : Bool). traded_own b v.own a.object pairs) lose in
       record {
         waited = record {
-          known = h.known;
-          is = h.is;
-          after = decided_known false e.history x z (begun_known h.history h.known);
-          after_is = known_is;
-          between = g.between;
-          seen = g.history_is;
-          others = g.others;
-          seated = g.seated;
-          many = omega arith;
+          more = seen_since l object before v w a.expected h e.history (decided_known false e.history x z (begun_known h.history h.known)) 1 g.0 g.1 (none_past l stood v e.core e.history e.found) known_is (ap (λ (y : View). y.number) e.view_is) (omega arith);
+          seen = refl;
           few = omega arith;
           mine = refl;
           begins = refl;
           exchanges = refl;
           own = own ∙ h.own;
-          number = ap (λ (y : View). y.number) e.view_is ∙ h.number;
         };
         legal = e.found.lawful.legal;
         below = e.found.lawful.below object there;
@@ -191,16 +173,9 @@ module _ (l : Layout) (stood stands : Core → Type 0) where
 pub spent_from : (l : Layout) (object : ℕ) (call : Call) (before w : View) (root tag : ℕ) → Opened l object before w root → w.attempt ≡ Some (new_attempt object call root) → tag ≡ tag_of root → tag_of root + 1 ≡ 2 ^ 40
     → IsSpent l before w object call tag 0
 spent_from l object call before w root tag h opened is last = record {
-  known = h.known;
-  is = h.is;
-  after = begun_known h.history h.known;
-  after_is = h.now_is;
-  between = h.seen.0;
-  seen = h.seen.1;
+  more = seen_since l object before w w root h h.history (begun_known h.history h.known) 0 h.seen h.mine h.seated h.now_is refl (omega arith);
+  seen = refl;
   legal = h.legal;
-  others = none_between before.number h.seen.0 h.known.seen (ap (entries_of before.number) (sym h.seen.1) ∙ sym h.mine ∙ h.all_mine);
-  seated = λ seat past. none_newer seat h.seen.0 h.known.seen (ap (entries_of seat) (sym h.seen.1) ∙ h.seated seat past);
-  many = omega arith;
   mine = refl;
   begins = omega arith;
   exchanges = omega arith;
@@ -210,7 +185,6 @@ spent_from l object call before w root tag h opened is last = record {
   root_is = is;
   opened = opened;
   own = h.own;
-  number = h.number;
 }
 
 -- between the steps of an attempt: nothing has happened yet, or it was begun

@@ -62,6 +62,7 @@ told_here system n job by had unfinished has other =
     ∙ ap (λ (b : Bool). if not b && not (is_finished system past job) then Preempt (length past) job by ∷ [] else []) (differ job by other)
     ∙ ap (λ (b : Bool). if not b then Preempt (length past) job by ∷ [] else []) unfinished
     ∙ ap (λ (m : ℕ). Preempt m job by ∷ []) (slots_count system (suc n))
+
 -- each preemption is told by its slot
 pub preemption_told : (system : System) (n : ℕ) (job by : Job) → IsPreemption system n job by → preemption system (slots system n) (slot_at system n) ≡ Preempt n job by ∷ []
 preemption_told system n job by h =

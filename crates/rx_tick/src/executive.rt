@@ -65,7 +65,7 @@ fn first_states(alloc: Global, set: &TaskSet) -> Result<Vec<State>, NoMemory>
 /// One simulated processor, and a set of tasks that it runs, slot by slot, with the objects that they share. It keeps one
 /// started job per task, with a machine for the operation that it has in hand, and counts of released and finished jobs.
 /// An operation is a retry loop (after Anderson, Ramamurthy and Jeffay, 1997): an attempt is lost where another one on
-/// its object won, and raised its tag, strictly between its first slot and its last. One whose call changes nothing
+/// its object won, and raised its tag, strictly between its first slot and its last. One whose call is quiet
 /// raises no tag, and makes no other one repeat.
 #[derive(Drop)]
 pub struct Executive<'s> {

@@ -2,8 +2,16 @@ use Rattle.std.proofs.Common.{ℕ, refl, ◌∙◌, subst, arith}
 use Rattle.rx_seq.specs.declared.calls.Call.{Call}
 use Rattle.rx_shape.specs.Layout.{Layout}
 use Rattle.rx_object.specs.Calls.{IsDone, IsLost, IsSpent}
-use Rattle.rx_object.proofs.Waiting.{waited_more, done_after, spent_after, rises}
+use Rattle.rx_object.proofs.Waiting.{not_waited, waited_more, done_after, spent_after, rises}
 use Rattle.rx_object.proofs.calls.make.Goals as goal
+
+pub loop-reply-init : goal.loop-reply-init
+loop-reply-init c = record {
+  machine = c.requires.new;
+  port = c.port-port.ensures;
+  ours = c.requires.ours;
+  waited = not_waited c.args.shared.now.layout c.args.seat.now.view c.args.object c.requires.ours.keeps;
+}
 
 pub returns-in-Done-clause-tells : goal.returns-in-Done-clause-tells
 returns-in-Done-clause-tells c =
