@@ -1,4 +1,5 @@
+pub mod Attempts
 pub mod Ordered
 pub mod Kept
-pub mod QuietCalls
-pub mod Histories
+mod QuietCalls
+mod Histories

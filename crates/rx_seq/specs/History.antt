@@ -36,7 +36,7 @@ calls_of caller [] = 0
 calls_of caller (entry ∷ before) = (if caller == entry.caller then 1 else 0) + calls_of caller before
 
 -- the entry of a call that comes after these: the caller's next index, the reply that the replay of the entries before
--- gives, and the next tag
+-- gives, and the object's tag after it
 abbrev pub entry_after : List Part → List Entry → ℕ → ℕ → Call → Entry
 entry_after parts before caller object call =
     let untagged : Entry = record {

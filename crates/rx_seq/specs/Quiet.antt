@@ -1,4 +1,4 @@
--- Quiet calls: those that change nothing. They raise no tag and make no other attempt repeat.
+-- Quiet calls: those of which call and reply tell that nothing changed. They raise no tag and make no other attempt repeat.
 use Rattle.std.specs.Prelude.{ℕ, ◌==◌, ◌||◌, not, Bool, true, false, if◌then◌else◌, take}
 use Rattle.std.specs.List.{list_all}
 use Rattle.rx_seq.specs.declared.calls.Row.{Row}

@@ -1,5 +1,5 @@
 -- The table of the sequential objects. A state is a list of numbers.
-use Rattle.std.specs.Prelude.{ℕ, ◌≡◌, ◌≤◌, ◌+◌, ◌-◌, ◌==◌, ◌&&◌, ◌||◌, nat_lt, nat_le, not, Bool, true, false, if◌then◌else◌, List, [], ◌∷◌, ◌++◌, length, get_or, slice_set, replicate, filter, take, drop, map, Option, Some, None}
+use Rattle.std.specs.Prelude.{ℕ, ◌≡◌, ◌≤◌, ◌+◌, ◌-◌, ◌*◌, ◌==◌, ◌&&◌, ◌||◌, nat_lt, nat_le, not, Bool, true, false, if◌then◌else◌, List, [], ◌∷◌, ◌++◌, length, get_or, slice_set, replicate, filter, take, drop, map, Option, Some, None}
 use Rattle.std.specs.List.{list_any, list_all}
 use Rattle.rx_seq.specs.declared.kinds.Kind.{Kind}
 use Rattle.rx_seq.specs.declared.kinds.Kind.TheVariants.{Cell, Queue, Registers, List as Ordered}
@@ -27,6 +27,17 @@ IsCap Registers cap = (1 ≤ cap) × (cap ≤ 16)
 -- a part is a kind of object with a capacity in its limits
 abbrev pub IsPart : Part → Type 0
 IsPart part = IsCap part.kind part.cap
+
+-- how many steps an attempt on a part has: 2 on a cell, and twice the capacity and 6 more on any other: a load, as many
+-- words as are read and written at most, and the exchange
+abbrev pub attempt_by : Kind → ℕ → ℕ
+attempt_by Cell cap = 2
+attempt_by Queue cap = 2 * cap + 6
+attempt_by Ordered cap = 2 * cap + 6
+attempt_by Registers cap = 2 * cap + 6
+
+abbrev pub attempt_steps : Part → ℕ
+attempt_steps part = attempt_by part.kind part.cap
 
 -- the first state of a part: a cell has 0, a queue and a list are empty, and each register has 0
 abbrev pub start_by : Kind → ℕ → List ℕ

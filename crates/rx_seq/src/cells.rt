@@ -5,11 +5,9 @@ ghost use Rattle.rx_seq.specs.declared.calls.Call.TheVariants.{Get, Set, Add, Sw
 ghost use Rattle.std.specs.Prelude.{◌≡◌, ◌≤◌, [], ◌∷◌, slice_index};
 
 use crate::calls::Call;
+use crate::limits::MOST_CELL;
 use crate::objects::State;
 use crate::replies::Reply;
-
-/// The greatest value of a cell.
-const MOST: u32 = 16_777_215;
 
 /// Whether the call is one of a cell, with its numbers in range.
 pub(crate) fn fits(call: Call) -> bool
@@ -17,8 +15,8 @@ pub(crate) fn fits(call: Call) -> bool
 {
     match call {
         Call::Get => true,
-        Call::Set { v } | Call::Add { v } => v <= MOST,
-        Call::Swap { old, new } => old <= MOST && new <= MOST,
+        Call::Set { v } | Call::Add { v } => v <= MOST_CELL,
+        Call::Swap { old, new } => old <= MOST_CELL && new <= MOST_CELL,
         _ => false,
     }
 }
@@ -50,7 +48,7 @@ pub(crate) fn add(state: &mut State, v: u32) -> Reply
     ensures state { state.new.items ≡ (effect_by 1 state.old.items (Add v)).state }
 {
     let sum = get(state) + v;
-    if sum > MOST {
+    if sum > MOST_CELL {
         return Reply::Over;
     }
     set(state, sum)

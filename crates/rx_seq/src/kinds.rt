@@ -1,4 +1,6 @@
 // Kinds of object, and the parts that a set of tasks shares.
+ghost use Rattle.rx_seq.specs.Table.{IsPart, attempt_steps as steps_of};
+ghost use Rattle.std.specs.Prelude.{◌≡◌, ◌≤◌};
 
 /// A kind of sequential object.
 #[derive(Clone, Copy, Debug, Default, PartialEq, Eq)]
@@ -20,4 +22,18 @@ pub enum Kind {
 pub struct Part {
     pub kind: Kind,
     pub cap: u32,
+}
+
+/// How many steps an attempt on an object has, from the load of its root to the exchange: 2 on a cell, and twice the
+/// capacity and 6 more on any other. It depends on the part alone, so that the cost of an operation is known before it
+/// runs. It takes constant time.
+pub fn attempt_steps(part: Part) -> u32
+    requires { IsPart part }
+    ensures value { result ≡ steps_of part }
+    ensures bound { (2 ≤ result) × (result ≤ 134) }
+{
+    match part.kind {
+        Kind::Cell => 2,
+        _ => 2 * part.cap + 6,
+    }
 }
