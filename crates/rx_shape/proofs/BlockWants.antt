@@ -7,7 +7,7 @@ use native.Mathlib.Decide.{ℕ_discrete}
 use Rattle.rx_seq.specs.declared.kinds.Part.{Part}
 use Rattle.rx_seq.specs.declared.calls.Call.{Call}
 use Rattle.rx_seq.specs.declared.replies.Reply.{Reply}
-use Rattle.rx_seq.specs.Table.{answers, effect}
+use Rattle.rx_seq.specs.Table.{answers, effect, most_value}
 use Rattle.rx_seq.specs.States.{IsState}
 use Rattle.rx_seq.proofs.Ordered.{Rises}
 use Rattle.rx_shape.specs.declared.homes.Home.{Home}
@@ -134,7 +134,7 @@ pub block_whole : (part : Part) (words : List ℕ) → part.cap ≤ 64 → IsWho
 block_whole part words few whole =
     let all = whole.all in
     let most = whole.lined.most (omega arith) in
-    record { few = omega arith; inside = omega arith; values = λ n below. let e : 0 + 1 + n ≡ suc n = omega arith in subst (λ (i : ℕ). slice_index words i ≤ 4294967295) (sym e) (whole.lined.values n (omega arith)) }
+    record { few = omega arith; inside = omega arith; values = λ n below. let e : 0 + 1 + n ≡ suc n = omega arith in subst (λ (i : ℕ). slice_index words i ≤ most_value) (sym e) (whole.lined.values n (omega arith)) }
 
 -- what a step wants
 next_as : (step : Step) (test : Bool) (here place : ℕ) → cond test (want_as step here) Stale ≡ Read place → place ≡ here

@@ -1,6 +1,7 @@
 -- How an object stands in memory. Its root word and its live places with their words are a version, which stands for a
 -- state of the part.
 use Rattle.std.specs.Prelude.{ℕ, suc, ◌≡◌, ◌+◌, ◌*◌, ◌<◌, ◌≤◌, List, [], ◌∷◌, length, slice_index}
+use Rattle.rx_seq.specs.Table.{most_value}
 use Rattle.rx_seq.specs.declared.kinds.Kind.{Kind}
 use Rattle.rx_seq.specs.declared.kinds.Kind.TheVariants.{Cell, Queue, Registers, List as Ordered}
 use Rattle.rx_seq.specs.declared.kinds.Part.{Part}
@@ -91,4 +92,4 @@ pub record IsVersion (home : Home) (root : ℕ) (words : List ℕ) : Type 0 wher
 pub record IsBlock (words : List ℕ) (first : ℕ) : Type 0 where
   pub few : slice_index words first ≤ 64
   pub inside : first + slice_index words first < length words
-  pub values : (number : ℕ) → number < slice_index words first → slice_index words (first + 1 + number) ≤ 4294967295
+  pub values : (number : ℕ) → number < slice_index words first → slice_index words (first + 1 + number) ≤ most_value

@@ -9,7 +9,7 @@ ghost use Rattle.std.specs.Prelude.{◌≡◌, ◌≤◌, ◌+◌, true, [], len
 use crate::homes::Home;
 use crate::layouts::read_block;
 use crate::moves::{move_block, stay};
-use crate::plans::{Plan, Want};
+use crate::plans::{MOST_PLACES, MOST_READS, Plan, Want};
 use crate::roots::low_of;
 use crate::shapes::Shape;
 use crate::steps::{Step, step_of};
@@ -37,7 +37,7 @@ use rx_seq::{Call, Part, Reply, State, apply, quiet};
 pub struct Blocks {
     home: Home,
     call: Call,
-    words: ArrayVec<u64, 66>,
+    words: ArrayVec<u64, MOST_READS>,
     step: Step,
     ghost form: { form_of home.part.kind ≡ block },
     ghost limits: { IsBounded home.part },
@@ -103,7 +103,7 @@ impl Shape for Blocks {
         self.step = step_of(self.home.part, self.call, self.words.as_slice());
     }
 
-    fn plan(&self, root: u64, own: &ArrayVec<u32, 65>, out: &mut Plan) -> Reply {
+    fn plan(&self, root: u64, own: &ArrayVec<u32, MOST_PLACES>, out: &mut Plan) -> Reply {
         quiet_calls_stay();
         if let Step::Kept { reply } = self.step {
             stay(root, out);

@@ -2,10 +2,7 @@
 ghost use Rattle.rx_seq.specs.Table.{answers, effect_by, fits_cell};
 ghost use Rattle.std.specs.Prelude.{◌≡◌, ◌<◌, ◌^◌, true, [], ◌∷◌};
 
-use rx_seq::{Call, Reply};
-
-/// The greatest value of a cell.
-const MOST: u32 = 16_777_215;
+use rx_seq::{Call, MOST_CELL, Reply};
 
 /// What a call makes of a cell's value, and its reply. It takes constant time.
 pub fn call_cell(value: u32, call: Call) -> (u32, Reply)
@@ -19,7 +16,7 @@ pub fn call_cell(value: u32, call: Call) -> (u32, Reply)
         Call::Set { v } => (v, Reply::Done { v }),
         Call::Add { v } => {
             let sum = value + v;
-            if sum > MOST {
+            if sum > MOST_CELL {
                 (value, Reply::Over)
             } else {
                 (sum, Reply::Done { v: sum })

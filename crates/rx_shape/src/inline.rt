@@ -6,7 +6,7 @@ ghost use Rattle.std.specs.Prelude.{◌≡◌, true, []};
 
 use crate::cells::call_cell;
 use crate::homes::Home;
-use crate::plans::{Plan, Want};
+use crate::plans::{MOST_PLACES, Plan, Want};
 use crate::roots::{low_of, pack, tag_of};
 use crate::shapes::Shape;
 use arrayvec::ArrayVec;
@@ -50,7 +50,7 @@ impl Shape for Inline {
 
     fn take(&mut self, _word: u64) {}
 
-    fn plan(&self, root: u64, _own: &ArrayVec<u32, 65>, out: &mut Plan) -> Reply {
+    fn plan(&self, root: u64, _own: &ArrayVec<u32, MOST_PLACES>, out: &mut Plan) -> Reply {
         quiet_calls_stay();
         let (value, reply) = call_cell(low_of(root), self.call);
         out.root = if quiet(self.call, reply) {

@@ -8,6 +8,7 @@ ghost use Rattle.rx_shape.specs.Start.{start_place, start_word};
 ghost use Rattle.std.specs.List.{All};
 ghost use Rattle.std.specs.Prelude.{◌≡◌, ◌≤◌, ◌<◌, ◌+◌, ◌^◌, ◌==◌, if◌then◌else◌, IfOk, [], length, slice_index};
 
+use crate::plans::MOST_PLACES;
 use crate::roots::{low_of, pack};
 use arrayvec::ArrayVec;
 use rx_seq::{Kind, NoMemory, Part, State};
@@ -41,7 +42,7 @@ impl Model for Layout {
 pub fn stock(part: Part) -> u32
     requires { IsPart part }
     ensures value { result ≡ stock_size part }
-    ensures bound { result ≤ 65 }
+    ensures bound { result ≤ MOST_PLACES }
 {
     match part.kind {
         Kind::Cell => 0,

@@ -20,6 +20,6 @@ pub use blocks::Blocks;
 pub use homes::Home;
 pub use inline::Inline;
 pub use layouts::{Layout, stock};
-pub use plans::{Pair, Plan, Taken, Trade, Want, Write};
-pub use roots::{low_of, pack, tag_of};
+pub use plans::{MOST_PLACES, MOST_READS, Pair, Plan, Taken, Trade, Want, Write};
+pub use roots::{LAST_TAG, low_of, pack, tag_of};
 pub use shapes::Shape;

@@ -3,7 +3,7 @@ ghost use Rattle.rx_shape.specs.Moves.{block_pairs, block_writes};
 ghost use Rattle.rx_shape.specs.Words.{low_of as low_in, pack as packed, tag_of as tag_in};
 ghost use Rattle.std.specs.Prelude.{◌≡◌, ◌+◌, ◌<◌, ◌≤◌, ◌^◌, [], length, slice_index};
 
-use crate::plans::{Pair, Plan, Write};
+use crate::plans::{MOST_PLACES, Pair, Plan, Write};
 use crate::roots::{low_of, pack, tag_of};
 use arrayvec::ArrayVec;
 
@@ -23,7 +23,7 @@ pub(crate) fn stay(root: u64, out: &mut Plan)
 pub(crate) fn move_block(root: u64, own: &[u32], state: &[u32], out: &mut Plan)
     requires tag { tag_in root + 1 < 2 ^ 40 }
     requires some { 0 < length own.now }
-    requires few { length own.now ≤ 65 }
+    requires few { length own.now ≤ MOST_PLACES }
     requires place { slice_index own.now 0 < 2 ^ 24 }
     requires state { length state.now ≤ 64 }
     ensures root { out.new.root ≡ packed (tag_in root + 1) (slice_index own.now 0) }
@@ -36,7 +36,7 @@ pub(crate) fn move_block(root: u64, own: &[u32], state: &[u32], out: &mut Plan)
 }
 
 /// Writes the length and the numbers.
-fn write_block(state: &[u32], writes: &mut ArrayVec<Write, 65>)
+fn write_block(state: &[u32], writes: &mut ArrayVec<Write, MOST_PLACES>)
     requires { length state.now ≤ 64 }
     ensures { writes.new.items ≡ block_writes state.now }
 {
@@ -54,9 +54,9 @@ fn write_block(state: &[u32], writes: &mut ArrayVec<Write, 65>)
 }
 
 /// Gives each own number its place of the block from this place on.
-fn trade_block(place: u32, count: u32, pairs: &mut ArrayVec<Pair, 65>)
+fn trade_block(place: u32, count: u32, pairs: &mut ArrayVec<Pair, MOST_PLACES>)
     requires place { place < 2 ^ 24 }
-    requires count { count ≤ 65 }
+    requires count { count ≤ MOST_PLACES }
     ensures { pairs.new.items ≡ block_pairs 0 place count }
 {
     pairs.clear();

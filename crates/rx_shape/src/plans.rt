@@ -2,6 +2,12 @@
 
 use arrayvec::ArrayVec;
 
+/// The most places that a version of an object has, and that a seat owns of it: one more than the greatest capacity.
+pub const MOST_PLACES: usize = 65;
+
+/// The most words that an attempt reads of an object.
+pub const MOST_READS: usize = 66;
+
 /// A place that was read, and the word that stood there.
 #[derive(Clone, Copy, Debug, Default, PartialEq, Eq)]
 pub struct Taken {
@@ -26,14 +32,14 @@ pub struct Pair {
 /// Which own places become which places if the exchange finds the expected root.
 #[derive(Drop)]
 pub struct Trade {
-    pub pairs: ArrayVec<Pair, 65>,
+    pub pairs: ArrayVec<Pair, MOST_PLACES>,
 }
 
 /// What an attempt writes, the root that it exchanges for, and the trade.
 #[derive(Drop)]
 pub struct Plan {
     pub root: u64,
-    pub writes: ArrayVec<Write, 65>,
+    pub writes: ArrayVec<Write, MOST_PLACES>,
     pub trade: Trade,
 }
 

@@ -2,6 +2,9 @@
 ghost use Rattle.rx_shape.specs.Words.{pack as packed, tag_of as tag_in, low_of as low_in};
 ghost use Rattle.std.specs.Prelude.{◌≡◌, ◌<◌, ◌^◌};
 
+/// The last version tag. A root that carries it has no next version, so no further call can be made on its object.
+pub const LAST_TAG: u64 = 1_099_511_627_775;
+
 /// The root word with this version tag and this low part. The tag has at most 40 bits, the low part at most 24. It
 /// takes constant time.
 pub fn pack(tag: u64, low: u32) -> u64

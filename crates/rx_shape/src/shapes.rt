@@ -10,7 +10,7 @@ ghost use Rattle.rx_shape.specs.Forms.{stock_size, InRange, IsStock};
 ghost use Rattle.rx_shape.specs.Asks.{Wants, IsPlanned};
 ghost use Rattle.std.specs.Prelude.{ℕ, ◌≡◌, ◌≤◌, ◌+◌, ◌<◌, ◌^◌, List, [], ◌∷◌, ◌++◌};
 
-use crate::plans::{Plan, Want};
+use crate::plans::{MOST_PLACES, Plan, Want};
 use arrayvec::ArrayVec;
 use rx_seq::{Call, Part, Reply};
 
@@ -62,7 +62,7 @@ pub trait Shape {
 
     /// The plan of the call, where `want` answers `Ready` and the root's tag is not the last one. The own places are
     /// a stock of places of the object, without repeats; a cell has none.
-    fn plan(&self, root: u64, own: &ArrayVec<u32, 65>, out: &mut Plan) -> Reply
+    fn plan(&self, root: u64, own: &ArrayVec<u32, MOST_PLACES>, out: &mut Plan) -> Reply
         requires ready { next self.now root ≡ Ready }
         requires root { 0 < stock_size (home self.now).part → InRange (home self.now) (low_of root) }
         requires tag { tag_of root + 1 < 2 ^ 40 }

@@ -10,10 +10,7 @@ ghost use Rattle.rx_shape.specs.Walks.{Begins, HaveNone, HaveNumbers, IsKept, Is
 ghost use Rattle.std.specs.List.{AllPairs};
 ghost use Rattle.std.specs.Prelude.{ℕ, suc, ◌≡◌, ◌<◌, ◌≤◌, ◌-◌, true, false, if◌then◌else◌, List, IfSome, length, slice_index};
 
-use rx_seq::{Call, Kind, Part, Reply, Row};
-
-/// The greatest number of a state.
-const MOST: u64 = 4_294_967_295;
+use rx_seq::{Call, Kind, MOST_VALUE, Part, Reply, Row};
 
 /// What the words that were read of a block say of a call.
 #[derive(Clone, Copy, Debug)]
@@ -64,7 +61,7 @@ fn is_lined(part: Part, words: &[u64]) -> bool
     if words.len() == 1 {
         return is_length(part, last);
     }
-    if last > MOST {
+    if last > MOST_VALUE as u64 {
         return false;
     }
     if words.len() == 2 {

@@ -106,9 +106,9 @@ fn quiet_calls_of_a_cell(rt: HostRuntime) {
 }
 
 /// So many places that follow each other.
-fn places(first: u32, count: u32) -> ArrayVec<u32, 65>
+fn places(first: u32, count: u32) -> ArrayVec<u32, MOST_PLACES>
     requires first { first ≤ 1000 }
-    requires count { count ≤ 65 }
+    requires count { count ≤ MOST_PLACES }
     ensures { result.items ≡ run first count }
 {
     let mut places = ArrayVec::new();

@@ -2,10 +2,10 @@ use Rattle.std.proofs.Common.{arith}
 use Rattle.rx_shape.proofs.Walked.{none_great, none_rising}
 use Rattle.rx_shape.proofs.steps.is_lined.Goals as goal
 
-pub returns-then-last-gt-MOST-clause-no : goal.returns-then-last-gt-MOST-clause-no
-returns-then-last-gt-MOST-clause-no c refused =
+pub returns-then-last-clause-no : goal.returns-then-last-clause-no
+returns-then-last-clause-no c refused =
     let more = c.if-words-eq1.false in let some = c.requires.some in
-    none_great c.args.part c.args.words.now c.requires.form (λ _. c.requires.within (omega arith)) (omega arith) c.if-last-gt-MOST.true
+    none_great c.args.part c.args.words.now c.requires.form (λ _. c.requires.within (omega arith)) (omega arith) c.if-last.true
 
 pub returns-clause-no : goal.returns-clause-no
 returns-clause-no c refused =
