@@ -2,7 +2,7 @@
 ghost use Rattle.rx_bench.specs.Lanes.{AreLanes, HasMade, HasOne};
 ghost use Rattle.rx_bench.specs.Scripts.{part_for};
 ghost use Rattle.rx_seq.specs.Table.{fits_part};
-ghost use Rattle.rx_table.specs.Boards.{AreSeats, IsSeatOf};
+ghost use Rattle.rx_table.specs.Tables.{AreSeats, IsSeatOf};
 ghost use Rattle.std.specs.List.{sum_by};
 ghost use Rattle.std.specs.Prelude.{◌^◌, ◌-◌, min, ◌≡◌, ◌<◌, ◌≤◌, true, IfOk, length};
 

@@ -1,5 +1,5 @@
-mod CallRows
-mod MemoryRows
 pub mod Calls
 pub mod Puts
-pub mod Reading
+mod CallRows
+mod MemoryRows
+mod Reading

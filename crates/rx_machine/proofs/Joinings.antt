@@ -6,11 +6,11 @@ use Rattle.rx_port.specs.declared.views.Core.{Core}
 use Rattle.rx_port.specs.declared.views.View.{View}
 use Rattle.rx_machine.specs.declared.steps.Step.{Step}
 use Rattle.rx_machine.specs.declared.steps.Step.TheVariants.{Going, Idle, Won, Lost, Spent}
-use Rattle.rx_machine.specs.declared.works.Work.{Work}
+use Rattle.rx_machine.specs.declared.machine_states.MachineState.{MachineState}
 use Rattle.rx_machine.specs.Operations.{Outlook, Operation, Progress}
 use Rattle.rx_machine.specs.Steps.{Loads, Spends, IsAmid, Reads, Writes, Decides, Wins, Loses, Tells}
 use Rattle.rx_machine.specs.Turns.{Turns}
-use Rattle.rx_machine.specs.Works.{operation_of, HasSettled, HasStepped}
+use Rattle.rx_machine.specs.MachineStates.{operation_of, HasSettled, HasStepped}
 
 -- the machine with another outlook
 abbrev with_outlook : Operation → Outlook → Operation
@@ -87,7 +87,7 @@ turns_from old new o (Won reply tag) t = record { progress = t.progress; is = t.
 turns_from old new o (Lost expected found) t = record { progress = t.progress; is = t.is; last = t.last; new_is = t.new_is }
 turns_from old new o (Spent tag) t = record { first = t.first; new_is = t.new_is }
 
-module _ {P S : Type 0} (l : Layout) (stands : P → S → Core → Type 0) (view : P → S → View) (port : P) (seat : S) (port' : P) (seat' : S) (old middle new : Work) (step : Step) where
+module _ {P S : Type 0} (l : Layout) (stands : P → S → Core → Type 0) (view : P → S → View) (port : P) (seat : S) (port' : P) (seat' : S) (old middle new : MachineState) (step : Step) where
   pub joined : HasSettled l (view port seat) old middle → HasStepped l stands view port seat port' seat' middle new step → HasStepped l stands view port seat port' seat' old new step
   joined s t = record {
     tells = tells_from l stands view port seat port' seat' (operation_of old) (operation_of new) (operation_of middle).outlook step (subst (λ x. Tells l stands view port seat port' seat' x (operation_of new) step) is t.tells);

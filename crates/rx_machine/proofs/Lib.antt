@@ -1,13 +1,13 @@
-pub mod Counting
-pub mod Working
-pub mod Writes
-pub mod Readings
-pub mod Beginnings
-pub mod Decisions
-pub mod Collecting
-pub mod Idlings
-pub mod Passings
-pub mod Joinings
-pub mod Running
-pub mod Banking
-pub mod Pairs
+mod Counting
+mod Working
+mod Writes
+mod Readings
+mod Beginnings
+mod Decisions
+mod Collecting
+mod Idlings
+mod Passings
+mod Joinings
+mod Running
+mod Banking
+mod Pairs

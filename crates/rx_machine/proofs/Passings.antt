@@ -3,19 +3,17 @@ use Rattle.std.proofs.Common.{◌≡◌, ◌≢◌, ℕ, zero, suc, ◌+◌, ◌
 use Rattle.std.specs.Prelude.{replicate}
 use Rattle.std.proofs.lemmas.List.{length-take-le}
 use Rattle.rx_shape.specs.declared.plans.Taken.{Taken}
-use Rattle.rx_shape.specs.Layout.{Layout}
-use Rattle.rx_port.specs.declared.views.View.{View}
-use Rattle.rx_port.specs.Core.{own_of}
 use Rattle.rx_machine.specs.declared.steps.Step.TheVariants.{Idle}
-use Rattle.rx_machine.specs.declared.works.Stage.{Stage}
-use Rattle.rx_machine.specs.declared.works.Stage.TheVariants.{Reading, Writing, Waiting}
-use Rattle.rx_machine.specs.declared.works.Work.{Work}
+use Rattle.rx_machine.specs.declared.machine_states.Stage.{Stage}
+use Rattle.rx_machine.specs.declared.machine_states.Stage.TheVariants.{Reading, Writing, Waiting}
+use Rattle.rx_machine.specs.declared.machine_states.MachineState.{MachineState}
 use Rattle.rx_machine.specs.AnyShapes.{any_taken}
-use Rattle.rx_machine.specs.Operations.{Intent, Outlook, Progress, Operation, attempt_steps, goes_on, IsUnderWay, Follows}
+use Rattle.rx_seq.specs.Table.{attempt_steps}
+use Rattle.rx_machine.specs.Operations.{Intent, Outlook, Progress, Operation, goes_on}
 use Rattle.rx_machine.specs.Turns.{IsRun, IsIdleRun, IsThrough, Passes}
-use Rattle.rx_machine.specs.Works.{intent_of, outlook_by, writes_by, progress_of, operation_of, IsCounted, IsIdleTrade, IsRunning, IsWork, HasNoWrite, HasPassed}
-use Rattle.rx_machine.proofs.Idlings.{shown_later}
-use Rattle.rx_machine.proofs.Working.{by_stage, opened, open_is}
+use Rattle.rx_machine.specs.MachineStates.{intent_of, outlook_by, writes_by, progress_of, operation_of, IsMachineState, HasNoWrite, HasPassed}
+use Rattle.rx_machine.proofs.Idlings.{raised, busy, raised_work, raised_is, raised_follows}
+use Rattle.rx_machine.proofs.Working.{opened, open_is}
 
 -- a machine whose attempt has made so many steps
 abbrev at : Operation → Progress → Outlook → ℕ → Operation
@@ -47,106 +45,54 @@ through_by Reading made root reads written plan apart all = absurd (apart refl)
 through_by Writing made root reads written plan apart all = let a = all refl in length-take-le written plan.writes (omega arith) ∙ a
 through_by Waiting made root reads written plan apart all = tt
 
--- the work after it
-abbrev pub passed : Work → Work
-passed work = record work { made = work.steps - 1 }
+module _ (state : MachineState) (h : IsMachineState state) (many : 0 < state.made) (none : HasNoWrite state) where
+  some_steps : 1 ≤ state.steps
+  some_steps = let s = h.steps in let e = (h.running many).early in omega arith
 
-module _ (work : Work) (h : IsWork work) (many : 0 < work.made) (none : HasNoWrite work) where
-  running : IsRunning work
-  running = h.running many
+  last : state.steps - 1 + 1 ≡ attempt_steps state.home.part
+  last = let s = h.steps in let e = some_steps in omega arith
 
-  early : work.made < attempt_steps work.home.part
-  early = running.early
+  later : state.made ≤ state.steps - 1
+  later = let s = h.steps in let e = (h.running many).early in omega arith
 
-  pub some_steps : 1 ≤ work.steps
-  some_steps = let s = h.steps in let e = early in omega arith
+  abbrev passed : MachineState
+  passed = raised state (state.steps - 1)
 
-  last : work.steps - 1 + 1 ≡ attempt_steps work.home.part
-  last = let s = h.steps in let e = early in omega arith
+  old_is : operation_of state ≡ opened state
+  old_is = open_is state many
 
-  later : work.made ≤ work.steps - 1
-  later = let s = h.steps in let e = early in omega arith
+  new_is : operation_of passed ≡ opened passed
+  new_is = raised_is state h many none (state.steps - 1) later
 
-  counted_as : (stage : Stage) → work.stage ≡ stage → IsCounted stage work.made (length (any_taken work.shape work.root)) work.written (length work.plan.writes.items)
-  counted_as stage e = subst (λ st. IsCounted st work.made (length (any_taken work.shape work.root)) work.written (length work.plan.writes.items)) e running.counted
+  through : IsThrough (progress_of state) (outlook_by state.stage (intent_of state))
+  through = through_by state.stage state.made state.root (any_taken state.shape state.root) state.written (intent_of state) none.stage none.all
 
-  counted_later : IsCounted work.stage (work.steps - 1) (length (any_taken work.shape work.root)) work.written (length work.plan.writes.items)
-  counted_later = let m = later in by_stage work.stage (λ e. absurd (none.stage e))
-      (λ e. let c = counted_as Writing e in let a = none.all e in
-      subst (λ st. IsCounted st (work.steps - 1) (length (any_taken work.shape work.root)) work.written (length work.plan.writes.items)) (sym e) (c.0, omega arith, λ less. absurd (omega arith)))
-      (λ e. let c = counted_as Waiting e in subst (λ st. IsCounted st (work.steps - 1) (length (any_taken work.shape work.root)) work.written (length work.plan.writes.items)) (sym e) (omega arith))
-
-  busy : 1 + length (progress_of work).reads + length (progress_of work).writes ≤ work.made
-  busy = by_stage work.stage (λ e. absurd (none.stage e))
-      (λ e. let c = counted_as Writing e in
-      let n : length (progress_of work).writes ≡ work.written = ap (λ st. length (writes_by st work.written work.plan.writes.items)) e ∙ length-take-le work.written work.plan.writes.items c.0 in omega arith)
-      (λ e. let c = counted_as Waiting e in let n : length (progress_of work).writes ≡ 0 = ap (λ st. length (writes_by st work.written work.plan.writes.items)) e in omega arith)
-
-  passed_work : IsWork (passed work)
-  passed_work =
-      let r = running in
-      let n = last in
-      record {
-        part = h.part;
-        fits = h.fits;
-        places = h.places;
-        steps = h.steps;
-        running = λ _. record {
-          shape_home = r.shape_home;
-          shape_call = r.shape_call;
-          room = r.room;
-          here = r.here;
-          early = omega arith;
-          few = r.few;
-          counted = counted_later;
-          trade = by_stage work.stage (λ e. absurd (none.stage e)) (λ e. subst (λ st. IsIdleTrade st (passed work)) (sym e) tt)
-              (λ e. subst (λ st. IsIdleTrade st (passed work)) (sym e) (let t : IsIdleTrade Waiting work = subst (λ st. IsIdleTrade st work) e r.trade in t));
-        };
-      }
-
-  old_is : operation_of work ≡ opened work
-  old_is = open_is work many
-
-  new_is : operation_of (passed work) ≡ opened (passed work)
-  new_is = open_is (passed work) (let m = later in omega arith)
-
-  through : IsThrough (progress_of work) (outlook_by work.stage (intent_of work))
-  through = through_by work.stage work.made work.root (any_taken work.shape work.root) work.written (intent_of work) none.stage none.all
-
-  passes : Passes (opened work) (opened (passed work))
+  passes : Passes (opened state) (opened passed)
   passes = inl (record {
-    progress = progress_of work;
+    progress = progress_of state;
     is = refl;
     through = through;
-    made = work.steps - 1;
+    made = state.steps - 1;
     new_is = refl;
     later = later;
     last = last;
   })
 
-  idle : IsIdleRun (opened work) (opened (passed work))
+  idle : IsIdleRun (opened state) (opened passed)
   idle =
-      let count = work.steps - 1 - work.made in
+      let count = state.steps - 1 - state.made in
       let m = later in
       let n = last in
-      let e : work.made + count ≡ work.steps - 1 = omega arith in (
+      let e : state.made + count ≡ state.steps - 1 = omega arith in (
         count,
-        subst (λ x. IsRun (opened work) (replicate count Idle) (at (opened work) (progress_of work) (outlook_by work.stage (intent_of work)) x)) e
-            (idle_run (opened work) (progress_of work) (outlook_by work.stage (intent_of work)) count work.made busy (omega arith)),
+        subst (λ x. IsRun (opened state) (replicate count Idle) (at (opened state) (progress_of state) (outlook_by state.stage (intent_of state)) x)) e
+            (idle_run (opened state) (progress_of state) (outlook_by state.stage (intent_of state)) count state.made (busy state h many none) (omega arith)),
       )
 
-  follows : (l : Layout) (v : View) → Follows l v (opened work) → Follows l v (opened (passed work))
-  follows l v f = let u : IsUnderWay v (opened work) (progress_of work) = f.under_way in record {
-    exists = f.exists;
-    place_is = f.place_is;
-    fits = f.fits;
-    under_way = record { is_open = u.is_open; shown = shown_later work.home work.call (progress_of work) (work.steps - 1) (own_of v work.object) (outlook_by work.stage (intent_of work)) u.shown };
-  }
-
-  pub passed_on : HasPassed work (passed work)
+  pub passed_on : HasPassed state (raised state (state.steps - 1))
   passed_on = record {
     passes = subst (λ (x : Operation × Operation). Passes x.0 x.1) (λ k. (sym old_is k, sym new_is k)) passes;
     idle = subst (λ (x : Operation × Operation). IsIdleRun x.0 x.1) (λ k. (sym old_is k, sym new_is k)) idle;
-    follows = λ l v f. subst (λ x. Follows l v x) (sym new_is) (follows l v (subst (λ x. Follows l v x) old_is f));
-    work_is = passed_work;
+    follows = raised_follows state h many none (state.steps - 1) later;
+    work_is = raised_work state h many none (state.steps - 1) later (let n = last in omega arith);
   }

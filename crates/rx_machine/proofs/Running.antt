@@ -4,7 +4,8 @@ use Rattle.std.specs.Prelude.{Option, Some, None, IfSome, replicate}
 use Rattle.rx_shape.specs.declared.homes.Home.{Home}
 use Rattle.rx_machine.specs.declared.steps.Step.{Step}
 use Rattle.rx_machine.specs.declared.steps.Step.TheVariants.{Going, Idle, Won, Lost, Spent}
-use Rattle.rx_machine.specs.Operations.{Progress, Operation, attempt_steps, position, made_of, IsBusy}
+use Rattle.rx_seq.specs.Table.{attempt_steps}
+use Rattle.rx_machine.specs.Operations.{Progress, Operation, position, made_of, IsBusy}
 use Rattle.rx_machine.specs.Turns.{Goes, Waits, Ends, Turns, IsRun, GoesOn, AllGoOn, IsDecided, IsInOrder}
 
 -- where an attempt stands after a step that does not end it

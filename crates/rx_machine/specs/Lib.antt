@@ -3,6 +3,6 @@ pub mod Operations
 pub mod Turns
 pub mod Steps
 pub mod OnBanks
-pub mod Works
+pub mod MachineStates
 pub mod Pairs
 pub mod Rows

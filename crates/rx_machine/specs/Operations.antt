@@ -1,6 +1,5 @@
 -- A machine as clauses see it: an operation on an object, and its open attempt.
-use Rattle.std.specs.Prelude.{ℕ, ◌≡◌, ◌+◌, ◌*◌, ◌<◌, Bool, true, false, List, [], length, take, Option, Some, None, IfSome}
-use Rattle.rx_seq.specs.declared.kinds.Part.{Part}
+use Rattle.std.specs.Prelude.{ℕ, ◌≡◌, ◌+◌, ◌<◌, Bool, true, false, List, [], length, take, Option, Some, None, IfSome}
 use Rattle.rx_seq.specs.declared.calls.Call.{Call}
 use Rattle.rx_seq.specs.declared.replies.Reply.{Reply}
 use Rattle.rx_seq.specs.History.{part_at}
@@ -9,22 +8,12 @@ use Rattle.rx_shape.specs.declared.homes.Home.{Home}
 use Rattle.rx_shape.specs.declared.plans.Taken.{Taken}
 use Rattle.rx_shape.specs.declared.plans.Write.{Write}
 use Rattle.rx_shape.specs.declared.plans.Pair.{Pair}
-use Rattle.rx_shape.specs.Forms.{Form, inline, block, form_of}
 use Rattle.rx_shape.specs.Layout.{Layout, home}
 use Rattle.rx_shape.specs.Versions.{IsStale}
 use Rattle.rx_shape.specs.Asks.{IsPlanned}
 use Rattle.rx_port.specs.declared.views.Attempt.{Attempt}
 use Rattle.rx_port.specs.declared.views.View.{View}
 use Rattle.rx_port.specs.Core.{own_of}
-
--- how many steps an attempt has, 2 on a cell, and twice the capacity and 6 on any other object: a load, as many words
--- as are read and written at most, and the exchange; one more where the object has places
-abbrev pub steps_as : Form → ℕ → ℕ
-steps_as inline cap = 2
-steps_as block cap = 2 * cap + 6
-
-abbrev pub attempt_steps : Part → ℕ
-attempt_steps part = steps_as (form_of part.kind) part.cap
 
 -- a plan, and its reply
 pub record Intent : Type 0 where

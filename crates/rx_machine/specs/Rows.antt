@@ -6,7 +6,8 @@ use Rattle.rx_seq.specs.declared.entries.Entry.{Entry}
 use Rattle.rx_seq.specs.declared.replies.Reply.TheVariants.{Empty}
 use Rattle.rx_shape.specs.declared.homes.Home.{Home}
 use Rattle.rx_machine.specs.declared.steps.Step.TheVariants.{Going, Idle, Won, Lost, Spent}
-use Rattle.rx_machine.specs.Operations.{Unsettled, Operation, attempt_steps, position, fresh, begun, goes_on, lost, over}
+use Rattle.rx_seq.specs.Table.{attempt_steps}
+use Rattle.rx_machine.specs.Operations.{Unsettled, Operation, position, fresh, begun, goes_on, lost, over}
 use Rattle.rx_machine.specs.OnBanks.{history_by}
 
 -- the steps of an attempt on an object of each kind

@@ -2,7 +2,7 @@
 use Rattle.std.specs.Prelude.{ℕ, ◌≡◌, ◌≢◌, ◌+◌, ◌<◌, ◌^◌, ◌⊎◌, ◌==◌, if◌then◌else◌, List, [], ◌∷◌, ◌++◌, Some, None}
 use Rattle.rx_seq.specs.declared.replies.Reply.{Reply}
 use Rattle.rx_seq.specs.History.{part_at, replay}
-use Rattle.rx_seq.specs.Table.{effect}
+use Rattle.rx_seq.specs.Table.{attempt_steps, effect}
 use Rattle.rx_shape.specs.declared.plans.Pair.{Pair}
 use Rattle.rx_shape.specs.Words.{tag_of}
 use Rattle.rx_shape.specs.Forms.{stock_size, InRange, live}
@@ -14,7 +14,7 @@ use Rattle.rx_port.specs.Core.{tag_after, exchanged, entry_for}
 use Rattle.rx_port.specs.Events.{Begun, DidRead, DidWrite, Decided, IsDecision}
 use Rattle.rx_machine.specs.declared.steps.Step.{Step}
 use Rattle.rx_machine.specs.declared.steps.Step.TheVariants.{Going, Idle, Won, Lost, Spent}
-use Rattle.rx_machine.specs.Operations.{Intent, Outlook, Unsettled, Settled, Progress, Operation, attempt_steps, goes_on, lost, over, begun, IsBusy, attempt_for}
+use Rattle.rx_machine.specs.Operations.{Intent, Outlook, Unsettled, Settled, Progress, Operation, goes_on, lost, over, begun, IsBusy, attempt_for}
 
 module _ (layout : Layout) (stood stands : Core → Type 0) (before now : View) (old new : Operation) where
   -- the first step loads the root, and the tag has room for one more

@@ -2,7 +2,8 @@
 use Rattle.std.specs.Prelude.{ℕ, ◌≡◌, ◌+◌, ◌<◌, ◌≤◌, ◌⊎◌, List, [], ◌∷◌, ◌++◌, length, replicate, None, Some, IfSome}
 use Rattle.rx_machine.specs.declared.steps.Step.{Step}
 use Rattle.rx_machine.specs.declared.steps.Step.TheVariants.{Going, Idle, Won, Lost, Spent}
-use Rattle.rx_machine.specs.Operations.{Outlook, Unsettled, Settled, Outdated, Progress, Operation, attempt_steps, position, goes_on, lost, over, IsBusy}
+use Rattle.rx_seq.specs.Table.{attempt_steps}
+use Rattle.rx_machine.specs.Operations.{Outlook, Unsettled, Settled, Outdated, Progress, Operation, position, goes_on, lost, over, IsBusy}
 
 -- the attempt goes on by an event. No step of it was idle
 pub record Goes (old new : Operation) : Type 0 where

@@ -4,7 +4,7 @@ ghost use Rattle.std.specs.Prelude.{ℕ, ◌≡◌, []};
 
 use arrayvec::ArrayVec;
 use rx_seq::{Call, Kind, Part, Reply};
-use rx_shape::{Blocks, Inline, Plan, Shape, Want};
+use rx_shape::{Blocks, Inline, MOST_PLACES, Plan, Shape, Want};
 
 /// An attempt on a cell, or on an object in block form.
 #[derive(Drop)]
@@ -76,7 +76,7 @@ impl Shape for AnyShape {
     }
 
     #[inline(always)]
-    fn plan(&self, root: u64, own: &ArrayVec<u32, 65>, out: &mut Plan) -> Reply {
+    fn plan(&self, root: u64, own: &ArrayVec<u32, MOST_PLACES>, out: &mut Plan) -> Reply {
         match self {
             AnyShape::Cell(shape) => shape.plan(root, own, out),
             AnyShape::Block(shape) => shape.plan(root, own, out),

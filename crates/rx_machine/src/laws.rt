@@ -1,6 +1,6 @@
 //! Laws of machines. Each function does nothing: its contract is the law.
 ghost use Rattle.rx_machine.specs.OnBanks.{Stepped, TellsOf};
-ghost use Rattle.rx_machine.specs.Operations.{Follows, Operation, attempt_steps, fresh, position};
+ghost use Rattle.rx_machine.specs.Operations.{Follows, Operation, fresh, position};
 ghost use Rattle.rx_machine.specs.Turns.{AllGoOn, IsDecided, IsInOrder, IsRun, Turns};
 ghost use Rattle.rx_machine.specs.declared.steps.Step.{Step};
 ghost use Rattle.rx_machine.specs.declared.steps.Step.TheVariants.{Spent};
@@ -8,7 +8,7 @@ ghost use Rattle.rx_port.specs.Plain.{IsSeatOf, Moves, Whole, view_at};
 ghost use Rattle.rx_port.specs.declared.views.Core.{Core};
 ghost use Rattle.rx_port.specs.declared.views.View.{View};
 ghost use Rattle.rx_seq.specs.History.{part_at};
-ghost use Rattle.rx_seq.specs.Table.{fits_part};
+ghost use Rattle.rx_seq.specs.Table.{attempt_steps, fits_part};
 ghost use Rattle.rx_seq.specs.declared.calls.Call.{Call};
 ghost use Rattle.rx_seq.specs.declared.entries.Entry.{Entry};
 ghost use Rattle.rx_shape.specs.Layout.{Layout, home};

@@ -4,11 +4,11 @@
 
 mod any_shape;
 pub mod laws;
+mod machine_states;
 mod machines;
 mod steps;
 #[cfg(test)]
 mod tests;
-mod works;
 
 pub use machines::Machine;
 pub use steps::Step;

@@ -2,15 +2,16 @@
 ghost use Rattle.rx_machine.specs.Operations.{Follows, fresh};
 ghost use Rattle.rx_machine.specs.Steps.{Tells};
 ghost use Rattle.rx_machine.specs.Turns.{IsIdleRun, Passes, Turns};
+ghost use Rattle.rx_port.specs.Ports.{KeepsSeats};
 ghost use Rattle.rx_port.specs.declared.views.View.{View};
 ghost use Rattle.rx_seq.specs.History.{part_at};
 ghost use Rattle.rx_seq.specs.Table.{fits_part};
 ghost use Rattle.rx_shape.specs.Layout.{Layout, home};
 ghost use Rattle.std.specs.Prelude.{ℕ, ◌≡◌, ◌<◌, ◌+◌, true, false, length};
 
+use crate::machine_states;
+use crate::machine_states::MachineState;
 use crate::steps::Step;
-use crate::works;
-use crate::works::Work;
 use rx_port::Port;
 use rx_seq::Call;
 use rx_shape::Layout;
@@ -24,18 +25,18 @@ use std::marker::Model;
 /// place and pass references to it.
 #[derive(Drop)]
 pub struct Machine {
-    work: Work,
+    state: MachineState,
 }
 
 impl Model for Machine {
     ghost use Rattle.rx_machine.specs.Operations.{Operation};
-    ghost use Rattle.rx_machine.specs.Works.{IsWork, operation_of};
+    ghost use Rattle.rx_machine.specs.MachineStates.{IsMachineState, operation_of};
 
     ghost Value = { Operation };
 
-    ghost view = { λ m. operation_of m.work };
+    ghost view = { λ m. operation_of m.state };
 
-    ghost invariant = { λ m. IsWork m.work };
+    ghost invariant = { λ m. IsMachineState m.state };
 }
 
 impl Machine {
@@ -47,7 +48,7 @@ impl Machine {
         ensures { result ≡ fresh (home layout.now object) object call }
     {
         Machine {
-            work: works::start(works::home_of(layout, object), object, call),
+            state: machine_states::start(machine_states::home_of(layout, object), object, call),
         }
     }
 
@@ -58,14 +59,19 @@ impl Machine {
         requires fits { fits_part (part_at layout.now.parts object) call ≡ true }
         ensures { self.new ≡ fresh (home layout.now object) object call }
     {
-        works::restart(&mut self.work, works::home_of(layout, object), object, call);
+        machine_states::restart(
+            &mut self.state,
+            machine_states::home_of(layout, object),
+            object,
+            call,
+        );
     }
 
     /// Whether `Won` or `Spent` has been answered since it was made or made anew. It takes constant time.
     pub fn ended(&self) -> bool
         ensures { result ≡ self.now.ended }
     {
-        self.work.ended
+        self.state.ended
     }
 
     /// Makes the next step of the operation, which has not ended. All steps of one attempt are made with one seat of one
@@ -85,12 +91,9 @@ impl Machine {
         ensures tells { Tells (P.layout port.old) P.stands P.view port.old seat.old port.new seat.new self.old self.new result }
         ensures turns { Turns self.old result self.new }
         ensures follows { Follows (P.layout port.new) (P.view port.new seat.new) self.new }
-        ensures layout { P.layout port.new ≡ P.layout port.old }
-        ensures ours { P.ours port.new seat.new }
-        ensures others { (other : P.Seat) → P.ours port.old other → P.ours port.new other }
-        ensures room { (n : ℕ) → P.room (n + 1) port.old → P.room n port.new }
+        ensures port { KeepsSeats P.layout P.ours P.room port.old port.new seat.new }
     {
-        works::make_step(&mut self.work, port, seat)
+        machine_states::make_step(&mut self.state, port, seat)
     }
 
     /// Passes over the idle steps that are left of an attempt: where it is given up, or planned with each of its writes
@@ -102,6 +105,6 @@ impl Machine {
         ensures idle { IsIdleRun self.old self.new }
         ensures follows { (layout : Layout) (view : View) → Follows layout view self.old → Follows layout view self.new }
     {
-        works::pass_idle(&mut self.work);
+        machine_states::pass_idle(&mut self.state);
     }
 }

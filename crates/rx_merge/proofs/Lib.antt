@@ -1,7 +1,8 @@
-pub mod Filters
-pub mod Moves
-pub mod Steps
-pub mod Whole
-pub mod Tallies
-pub mod MergeStates
-pub mod Samples
+mod Filters
+mod Moves
+mod Steps
+mod Whole
+mod Tallies
+mod MergeStates
+mod Samples
+mod StateRows

@@ -1,3 +1,4 @@
 pub mod Merged
 pub mod MergeState
 pub mod Rows
+pub mod StateRows

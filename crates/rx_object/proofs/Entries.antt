@@ -2,10 +2,9 @@
 use Rattle.std.proofs.Common.{◌≡◌, ℕ, ◌+◌, Bool, true, false, List, [], ◌∷◌, ◌++◌, length, refl, sym, ap, ◌∙◌, arith, append_assoc}
 use Rattle.std.specs.Prelude.{◌==◌, if◌then◌else◌}
 use Rattle.std.proofs.lemmas.Bool.{eq-eqb}
-use Rattle.rx_seq.specs.declared.kinds.Part.{Part}
 use Rattle.rx_seq.specs.declared.entries.Entry.{Entry}
 use Rattle.rx_seq.specs.History.{tag_of as count_loud}
-use Rattle.rx_seq.specs.Legal.{IsLegal, entries_of}
+use Rattle.rx_seq.specs.Legal.{entries_of}
 use Rattle.rx_port.specs.Lawful.{IsOlder}
 
 entries_step : (caller : ℕ) (b : Bool) (entry : Entry) (xs ys zs : List Entry) → zs ≡ xs ++ ys → (if b then entry ∷ zs else zs) ≡ (if b then entry ∷ xs else xs) ++ ys
@@ -31,11 +30,6 @@ none_added (x ∷ xs) ys e = absurd (let n = length-append (x ∷ xs) ys in let 
 -- where a caller has no more entries than before, none of those that were added is its own
 pub none_between : (caller : ℕ) (between before : List Entry) → entries_of caller (between ++ before) ≡ entries_of caller before → entries_of caller between ≡ []
 none_between caller between before e = none_added (entries_of caller between) (entries_of caller before) (sym (entries-append caller between before) ∙ e)
-
--- the older part of a legal history is legal
-pub legal_older : (parts : List Part) (first : ℕ) (newer older : List Entry) → IsLegal parts first (newer ++ older) → IsLegal parts first older
-legal_older parts first [] older h = h
-legal_older parts first (x ∷ newer) older h = legal_older parts first newer older h.2
 
 pub older_trans : (a b c : List Entry) → IsOlder a b → IsOlder b c → IsOlder a c
 older_trans a b c h k = (k.0 ++ h.0, k.1 ∙ ap (λ (l : List Entry). k.0 ++ l) h.1 ∙ sym (append_assoc k.0 h.0 a))

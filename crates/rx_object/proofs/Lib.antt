@@ -1,5 +1,6 @@
-pub mod Entries
-pub mod Trying
-pub mod Waiting
 pub mod Seating
-pub mod Lone
+mod Entries
+mod Trying
+mod Waiting
+mod Lone
+mod SeenRows

@@ -20,7 +20,7 @@ use Rattle.rx_port.specs.Lawful.{IsOlder, IsKnown}
 use Rattle.rx_port.specs.Events.{Found, Begun, Decided}
 use Rattle.rx_port.proofs.Lists.{some_here}
 use Rattle.rx_port.proofs.Histories.{mine_here, legal_more}
-use Rattle.rx_table.specs.Boards.{Board, Sitting, IsSeatOf}
+use Rattle.rx_table.specs.Tables.{SharedTable, SeatView, IsSeatOf}
 use Rattle.rx_table.specs.Seats.{Keeps}
 use Rattle.rx_machine.specs.Operations.{Progress, Operation, attempt_for, lost}
 use Rattle.rx_machine.specs.Steps.{Loads, Spends, Reads, Writes, Wins, Loses}
@@ -250,5 +250,5 @@ module _ (l : Layout) (stood stands : Core → Type 0) (before v w : View) (old 
       spent_from l old.object old.call before w s.root tag (opened_from l stood stands before w old.object old.call s.root there keeps e) (ap (λ (y : View). y.attempt) e.view_is) s.tag_is s.last
 
 -- a port of the same layout that has the same seat is the same port
-pub same_port : (p q : Board) (seat : Sitting) → q.layout ≡ p.layout → IsSeatOf p seat → IsSeatOf q seat → q ≡ p
+pub same_port : (p q : SharedTable) (seat : SeatView) → q.layout ≡ p.layout → IsSeatOf p seat → IsSeatOf q seat → q ≡ p
 same_port p q seat layout h h' = (λ k. record { layout = layout k; table = (sym h'.same ∙ h.same) k })

@@ -1,6 +1,7 @@
 -- A call that goes on after lost attempts.
 use Rattle.std.proofs.Common.{◌≡◌, ℕ, ◌+◌, ◌<◌, ◌^◌, List, [], ◌∷◌, ◌++◌, refl, sym, ap, ◌∙◌, arith, append_assoc}
-use Rattle.std.specs.Prelude.{Option, Some, None}
+use Rattle.std.specs.Prelude.{Option}
+use Rattle.std.proofs.lemmas.Option.{same_Some}
 use Rattle.rx_seq.specs.declared.calls.Call.{Call}
 use Rattle.rx_seq.specs.declared.entries.Entry.{Entry}
 use Rattle.rx_seq.specs.declared.replies.Reply.{Reply}
@@ -38,20 +39,13 @@ not_waited l before object h = record {
   own = refl;
 }
 
-same_known : (v : View) (a b : Known) → v.known ≡ Some a → v.known ≡ Some b → a ≡ b
-same_known v a b e f = ap (λ (x : Option Known). or_a x) (sym e ∙ f)
-  where
-    or_a : Option Known → Known
-    or_a None = a
-    or_a (Some k) = k
-
 none_both : (caller : ℕ) (xs ys : List Entry) → entries_of caller xs ≡ [] → entries_of caller ys ≡ [] → entries_of caller (xs ++ ys) ≡ []
 none_both caller xs ys e f = entries-append caller xs ys ∙ (λ k. e k ++ f k)
 
 module _ (l : Layout) (before middle now : View) (object lost : ℕ) (w : HasWaited l before middle object lost) where
   -- what the seat has seen goes on
   known_on : (n : ℕ) (h : HasSeenMore l middle now object n) → h.known ≡ w.more.after
-  known_on n h = same_known middle h.known w.more.after h.is w.more.after_is
+  known_on n h = same_Some h.known w.more.after (sym h.is ∙ w.more.after_is)
 
   history_on : (n : ℕ) (h : HasSeenMore l middle now object n) → h.history ≡ (h.between ++ w.more.between) ++ w.more.known.seen
   history_on n h =

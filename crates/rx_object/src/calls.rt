@@ -5,7 +5,7 @@ ghost use Rattle.rx_object.specs.declared.calls.Try.TheVariants.{Lost};
 ghost use Rattle.rx_seq.specs.History.{part_at};
 ghost use Rattle.rx_seq.specs.Table.{fits_part};
 ghost use Rattle.rx_shape.specs.Layout.{home};
-ghost use Rattle.rx_table.specs.Boards.{IsSeatOf};
+ghost use Rattle.rx_table.specs.Tables.{IsSeatOf};
 ghost use Rattle.std.specs.Prelude.{ℕ, ◌≡◌, ◌<◌, true, length};
 
 use rx_machine::{Machine, Step};

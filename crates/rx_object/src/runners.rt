@@ -4,7 +4,7 @@ ghost use Rattle.rx_object.specs.Calls.{Tells, TellsAll};
 ghost use Rattle.rx_seq.specs.History.{part_at};
 ghost use Rattle.rx_seq.specs.Table.{fits_part};
 ghost use Rattle.rx_shape.specs.Layout.{home};
-ghost use Rattle.rx_table.specs.Boards.{IsSeatOf};
+ghost use Rattle.rx_table.specs.Tables.{IsSeatOf};
 ghost use Rattle.std.specs.Prelude.{◌≡◌, ◌<◌, true, length, Some};
 
 use crate::calls::{Outcome, Try, make, try_once};

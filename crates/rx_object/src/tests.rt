@@ -1,7 +1,7 @@
 // Calls on a table with one object.
 ghost use Rattle.rx_machine.specs.Operations.{Follows};
 ghost use Rattle.rx_seq.specs.Table.{IsPart};
-ghost use Rattle.rx_table.specs.Boards.{AreSeats, IsSeatOf};
+ghost use Rattle.rx_table.specs.Tables.{AreSeats, IsSeatOf};
 ghost use Rattle.std.specs.Prelude.{◌≡◌, ◌<◌, ◌≤◌, ◌^◌, IfOk};
 
 use super::*;

@@ -2,7 +2,7 @@
 // history of each object: the calls that changed nothing stand after the call that gave the tag.
 ghost use Rattle.rx_seq.specs.States.{IsState};
 ghost use Rattle.rx_seq.specs.Table.{IsPart};
-ghost use Rattle.rx_table.specs.Boards.{AreSeats, IsSeatOf};
+ghost use Rattle.rx_table.specs.Tables.{AreSeats, IsSeatOf};
 ghost use Rattle.std.specs.Prelude.{◌≡◌, ◌≤◌, IfOk, IfSome};
 
 use super::*;

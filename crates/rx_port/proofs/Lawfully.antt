@@ -39,7 +39,7 @@ use Rattle.rx_port.proofs.Lists.{at_set, inside_list, some_here, if_some}
 use Rattle.rx_port.proofs.Histories.{older-refl, older-more, count_here, count_there, state_here, state_there, mine_here, mine_there, legal_more}
 use Rattle.rx_port.proofs.Placing.{placed_at, placed_two, placed_set, placed_same}
 
-both_lives : (v : View) → v.live ≡ true → v.live ≡ false → ⊥
+pub both_lives : (v : View) → v.live ≡ true → v.live ≡ false → ⊥
 both_lives v yes_live no_live = let e : true ≡ false = sym yes_live ∙ no_live in cc
 
 seats_set : (l : Layout) (words : List ℕ) (es : List Entry) (views : List View) (i : ℕ) (w : View) → ((j : ℕ) (u : View) → j ≢ i → get_elem? views j ≡ some u → IsView l words es j u) → IsView l words es i w → (j : ℕ) (u : View) → get_elem? (set views i w) j ≡ some u → IsView l words es j u

@@ -5,4 +5,4 @@ pub mod Lawfully
 pub mod Seating
 pub mod BankSteps
 pub mod BankMoves
-pub mod CellPlans
+mod CellPlans

@@ -173,14 +173,6 @@ module _ (l : Layout) (words : List ℕ) (limits : IsLayout l) (start : IsStart 
       let many = length-seated n in
       subst (λ (m : ℕ). Lawful l words (seated l n ++ newcomer l None m None ∷ []) []) many (add_lawful l None None (seated l n) (omega arith) words [] (seated_lawful n (omega arith)) tt)
 
--- one more place of a run
-pub run_end : (first count : ℕ) → run first (count + 1) ≡ run first count ++ (first + count) ∷ []
-run_end first zero = ap (λ (n : ℕ). n ∷ []) (let e : first ≡ first + 0 = omega arith in e)
-run_end first (suc count) =
-    ap (λ (n : ℕ). run first n) (let e : suc count + 1 ≡ suc (count + 1) = omega arith in e)
-    ∙ ap (λ (xs : List ℕ). first ∷ xs) (run_end (first + 1) count)
-    ∙ ap (λ (n : ℕ). first ∷ run (first + 1) count ++ n ∷ []) (let e : first + 1 + count ≡ first + suc count = omega arith in e)
-
 -- one more object's places
 pub starts_step : (l : Layout) (seat o : ℕ) (own : List (List ℕ)) → o < length l.parts → own ++ starts l seat o (drop o l.parts) ≡ starts l seat 0 l.parts
     → (own ++ start_own (home l o) seat ∷ []) ++ starts l seat (o + 1) (drop (o + 1) l.parts) ≡ starts l seat 0 l.parts

@@ -13,8 +13,8 @@ use Rattle.rx_port.specs.declared.views.Counts.{Counts}
 use Rattle.rx_port.specs.declared.views.Attempt.{Attempt}
 use Rattle.rx_port.specs.declared.views.View.{View}
 use Rattle.rx_port.specs.declared.views.Core.{Core}
-use Rattle.rx_port.specs.declared.desks.Opened.{Opened}
-use Rattle.rx_port.specs.declared.desks.Desk.{Desk}
+use Rattle.rx_port.specs.declared.seat_states.Opened.{Opened}
+use Rattle.rx_port.specs.declared.seat_states.SeatState.{SeatState}
 use Rattle.rx_port.specs.Lawful.{Lawful}
 use Rattle.rx_port.specs.Events.{OwnsWell}
 
@@ -26,12 +26,12 @@ abbrev pub attempt_of : List Taken → List Write → Opened → Attempt
 attempt_of reads writes opened = record { object = opened.object; call = opened.call; expected = opened.expected; reads = reads; writes = writes }
 
 -- a seat, which keeps no histories
-abbrev pub view_of : Desk → View
-view_of desk = record { number = desk.number; next = None; live = true; attempt = option_map (attempt_of desk.reads.items desk.writes.items) desk.open; own = lists desk.own.items; joined = []; known = None }
+abbrev pub view_of : SeatState → View
+view_of seat = record { number = seat.number; next = None; live = true; attempt = option_map (attempt_of seat.reads.items seat.writes.items) seat.open; own = lists seat.own.items; joined = []; known = None }
 
 -- the words, seats and counts of a bank
-abbrev pub plain_core : List ℕ → List Desk → Counts → Core
-plain_core words desks counts = record { words = words; views = map view_of desks; counts = Some counts }
+abbrev pub plain_core : List ℕ → List SeatState → Counts → Core
+plain_core words seats counts = record { words = words; views = map view_of seats; counts = Some counts }
 
 -- a seat that stands where there is none, and the seat of a number
 abbrev pub nobody : View
@@ -45,8 +45,8 @@ pub record Whole : Type 0 where
   pub layout : Layout
   pub core : Core
 
-abbrev pub whole_of : Layout → List ℕ → List Desk → Counts → Whole
-whole_of layout words desks counts = record { layout = layout; core = plain_core words desks counts }
+abbrev pub whole_of : Layout → List ℕ → List SeatState → Counts → Whole
+whole_of layout words seats counts = record { layout = layout; core = plain_core words seats counts }
 
 -- a seat that keeps no histories, is joined into no other, and has none joined into it
 pub record IsPlainView (view : View) : Type 0 where

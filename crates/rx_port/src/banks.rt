@@ -11,10 +11,10 @@ ghost use Rattle.rx_shape.specs.Start.{IsStart};
 ghost use Rattle.rx_shape.specs.Words.{tag_of as tag_in};
 ghost use Rattle.std.specs.Prelude.{ℕ, ◌≡◌, ◌<◌, ◌==◌, if◌then◌else◌, IfOk, List, [], Some, length};
 
-use crate::desks;
-use crate::desks::Desk;
 use crate::ports::Port;
-use crate::starts::{start_desks, start_words};
+use crate::seat_states;
+use crate::seat_states::SeatState;
+use crate::starts::{start_seats, start_words};
 use crate::trades::place_at;
 use crate::views::Counts;
 use rx_seq::{Call, NoMemory, State};
@@ -30,7 +30,7 @@ use std::marker::Model;
 pub struct Bank {
     layout: Layout,
     words: Vec<u64>,
-    desks: Vec<Desk>,
+    seats: Vec<SeatState>,
     counts: Counts,
 }
 
@@ -39,9 +39,9 @@ impl Model for Bank {
 
     ghost Value = { Whole };
 
-    ghost view = { λ b. whole_of b.layout b.words.items b.desks.items b.counts };
+    ghost view = { λ b. whole_of b.layout b.words.items b.seats.items b.counts };
 
-    ghost invariant = { λ b. IsBank (whole_of b.layout b.words.items b.desks.items b.counts) };
+    ghost invariant = { λ b. IsBank (whole_of b.layout b.words.items b.seats.items b.counts) };
 }
 
 impl Bank {
@@ -58,11 +58,11 @@ impl Bank {
     {
         let _parts = layout.parts();
         let words = start_words(alloc, &layout)?;
-        let desks = start_desks(alloc, &layout)?;
+        let seats = start_seats(alloc, &layout)?;
         Ok(Bank {
             layout,
             words,
-            desks,
+            seats,
             counts: Counts::default(),
         })
     }
@@ -119,22 +119,22 @@ impl Port for Bank {
 
     fn begin(&mut self, seat: &mut u32, object: u32, call: Call) -> u64 {
         let root = self.words[object as usize + 1];
-        desks::begin(&mut self.desks[*seat as usize], object, call, root);
+        seat_states::begin(&mut self.seats[*seat as usize], object, call, root);
         self.counts.loads += 1;
         root
     }
 
     fn read(&mut self, seat: &mut u32, object: u32, place: u32) -> u64 {
         let word = self.words[place as usize];
-        desks::read(&mut self.desks[*seat as usize], Taken { place, word });
+        seat_states::read(&mut self.seats[*seat as usize], Taken { place, word });
         self.counts.loads += 1;
         word
     }
 
     fn write(&mut self, seat: &mut u32, object: u32, own: u32, value: u64) {
-        let place = place_at(&self.desks[*seat as usize].own, object, own);
+        let place = place_at(&self.seats[*seat as usize].own, object, own);
         self.words[place as usize] = value;
-        desks::write(&mut self.desks[*seat as usize], Write { own, value });
+        seat_states::write(&mut self.seats[*seat as usize], Write { own, value });
         self.counts.stores += 1;
     }
 
@@ -148,8 +148,8 @@ impl Port for Bank {
     ) -> u64 {
         let found = self.words[object as usize + 1];
         self.words[object as usize + 1] = exchange(found, expected, new);
-        desks::decide(
-            &mut self.desks[*seat as usize],
+        seat_states::decide(
+            &mut self.seats[*seat as usize],
             object,
             trade.pairs.as_slice(),
             found == expected,
@@ -159,7 +159,7 @@ impl Port for Bank {
     }
 
     fn own(&self, seat: &u32, object: u32, own: u32) -> u32 {
-        place_at(&self.desks[*seat as usize].own, object, own)
+        place_at(&self.seats[*seat as usize].own, object, own)
     }
 
     ghost room_less = { λ n b h. less_room n b.core h };

@@ -3,9 +3,9 @@
 #![tactic(auto)]
 
 mod banks;
-mod desks;
 pub mod laws;
 mod ports;
+mod seat_states;
 mod starts;
 #[cfg(test)]
 mod tests;

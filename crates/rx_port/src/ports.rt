@@ -5,6 +5,7 @@ ghost use Rattle.rx_shape.specs.Forms.{stock_size, InRange};
 ghost use Rattle.rx_shape.specs.Layout.{Layout, home};
 ghost use Rattle.rx_port.specs.Core.{own_of};
 ghost use Rattle.rx_port.specs.Events.{Begun, DidRead, DidWrite, Decided, IsOpen, IsWritable, IsReady, OwnsWell};
+ghost use Rattle.rx_port.specs.Ports.{KeepsSeats};
 ghost use Rattle.rx_port.specs.declared.views.Attempt.{Attempt};
 ghost use Rattle.rx_port.specs.declared.views.Core.{Core};
 ghost use Rattle.rx_port.specs.declared.views.View.{View};
@@ -15,11 +16,11 @@ use rx_shape::Trade;
 
 /// Where an attempt makes its events: a plain bank, or a table that seats share. An attempt loads the object's root and
 /// the places that it names, writes a private copy and swings the root by one conditional store (Herlihy, 1993; here a
-/// compare-and-exchange of a root that carries a version tag). Each event finds the words and the
-/// seats in a state that is lawful for some history, and tells what it makes of them: of one word at most, and of the
-/// view of its own seat. That they stay lawful is a law (`laws::events_keep_the_law`). After an event all seats of the
-/// port are still its seats. Events of other seats may come between two events. All objects are numbered from 0. Each
-/// event wants a port that has room for one more, which each implementation says.
+/// compare-and-exchange of a root that carries a version tag). Each event finds the words and the seats in a state that
+/// is lawful for some history, and tells what it makes of them: of one word at most, and of the view of its own seat.
+/// That they stay lawful is a law (`laws::events_keep_the_law`). Each event wants a port that has room for one more,
+/// which each implementation says. It leaves the port its layout and its seats, and room for one event less. Events of
+/// other seats may come between two events. All objects are numbered from 0.
 pub trait Port {
     /// A seat of the bank or table. It has the open attempt and the own places.
     type Seat;
@@ -47,10 +48,7 @@ pub trait Port {
         requires fits { fits_part (part_at (layout self.old).parts object) call ≡ true }
         requires room { room 1 self.old }
         ensures event { Begun (layout self.old) (stands self.old seat.old) (stands self.new seat.new) (view self.old seat.old) (view self.new seat.new) object call result }
-        ensures layout { layout self.new ≡ layout self.old }
-        ensures ours { ours self.new seat.new }
-        ensures others { (other : Self.Seat) → ours self.old other → ours self.new other }
-        ensures room { (n : ℕ) → room (n + 1) self.old → room n self.new };
+        ensures port { KeepsSeats layout ours room self.old self.new seat.new };
 
     /// Loads a place of the object. The seat has an open attempt on the object, which read fewer than the capacity and 2
     /// words.
@@ -61,10 +59,7 @@ pub trait Port {
         requires range { InRange (home (layout self.old) object) place }
         requires room { room 1 self.old }
         ensures event { (attempt : Attempt) → (view self.old seat.old).attempt ≡ Some attempt → DidRead (layout self.old) (stands self.old seat.old) (stands self.new seat.new) (view self.old seat.old) (view self.new seat.new) attempt place result }
-        ensures layout { layout self.new ≡ layout self.old }
-        ensures ours { ours self.new seat.new }
-        ensures others { (other : Self.Seat) → ours self.old other → ours self.new other }
-        ensures room { (n : ℕ) → room (n + 1) self.old → room n self.new };
+        ensures port { KeepsSeats layout ours room self.old self.new seat.new };
 
     /// Stores into the own place with this number. The seat has an open attempt on the object, which wrote nothing under
     /// this number.
@@ -74,10 +69,7 @@ pub trait Port {
         requires open { IsWritable (layout self.old) (view self.old seat.old) object own }
         requires room { room 1 self.old }
         ensures event { (attempt : Attempt) → (view self.old seat.old).attempt ≡ Some attempt → DidWrite (layout self.old) (stands self.old seat.old) (stands self.new seat.new) (view self.old seat.old) (view self.new seat.new) attempt own value }
-        ensures layout { layout self.new ≡ layout self.old }
-        ensures ours { ours self.new seat.new }
-        ensures others { (other : Self.Seat) → ours self.old other → ours self.new other }
-        ensures room { (n : ℕ) → room (n + 1) self.old → room n self.new };
+        ensures port { KeepsSeats layout ours room self.old self.new seat.new };
 
     /// Exchanges the object's root for the new one if it is the expected one, and answers the root that it found. If it
     /// is the expected one, each pair of the trade makes the own place with its number the given place; else nothing
@@ -97,10 +89,7 @@ pub trait Port {
         requires ready { IsReady (layout self.old) (view self.old seat.old) object expected new trade.now.pairs.items }
         requires room { room 1 self.old }
         ensures event { (attempt : Attempt) → (view self.old seat.old).attempt ≡ Some attempt → Decided (layout self.old) (stands self.old seat.old) (stands self.new seat.new) (view self.old seat.old) (view self.new seat.new) attempt new trade.now.pairs.items result }
-        ensures layout { layout self.new ≡ layout self.old }
-        ensures ours { ours self.new seat.new }
-        ensures others { (other : Self.Seat) → ours self.old other → ours self.new other }
-        ensures room { (n : ℕ) → room (n + 1) self.old → room n self.new };
+        ensures port { KeepsSeats layout ours room self.old self.new seat.new };
 
     /// The place that the seat owns under this number. The object is no cell. It makes no event.
     fn own(&self, seat: &Self::Seat, object: u32, own: u32) -> u32

@@ -6,7 +6,7 @@ ghost use Rattle.rx_shape.specs.Layout.{home};
 ghost use Rattle.rx_shape.specs.Start.{IsStart};
 ghost use Rattle.std.specs.Prelude.{◌≡◌, ◌<◌, IfOk, length, map};
 
-use crate::desks::Desk;
+use crate::seat_states::SeatState;
 use arrayvec::ArrayVec;
 use rx_seq::NoMemory;
 use rx_shape::{Layout, stock};
@@ -61,23 +61,23 @@ pub fn own_of_seat(alloc: Global, layout: &Layout, seat: u32) -> Result<Vec<Vec<
 }
 
 /// The seats of the start, in order.
-pub fn start_desks(alloc: Global, layout: &Layout) -> Result<Vec<Desk>, NoMemory>
-    ensures { IfOk result (λ desks. map view_of desks.items ≡ seated layout.now layout.now.seats) }
+pub fn start_seats(alloc: Global, layout: &Layout) -> Result<Vec<SeatState>, NoMemory>
+    ensures { IfOk result (λ seats. map view_of seats.items ≡ seated layout.now layout.now.seats) }
 {
-    let mut desks = Vec::new(alloc);
+    let mut seats = Vec::new(alloc);
     for seat in 0..layout.seats() {
         let own = own_of_seat(alloc, layout, seat)?;
-        let desk = Desk {
+        let state = SeatState {
             number: seat,
             open: None,
             reads: ArrayVec::new(),
             writes: ArrayVec::new(),
             own,
         };
-        match desks.push(desk) {
+        match seats.push(state) {
             Ok(()) => {}
             Err(_) => return Err(NoMemory),
         }
     }
-    Ok(desks)
+    Ok(seats)
 }

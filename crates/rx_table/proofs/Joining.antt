@@ -19,13 +19,10 @@ use Rattle.rx_port.specs.declared.views.View.{View}
 use Rattle.rx_port.specs.Lawful.{IsOlder, left_of, holds_of, unmade, placed, IsKnown, IsView, IsJoined, is_of, joined_in, Lawful}
 use Rattle.rx_port.specs.Seats.{newcomer}
 use Rattle.rx_port.proofs.Lists.{at_set, inside_list, some_here}
-use Rattle.rx_port.proofs.Lawfully.{view_lawful}
+use Rattle.rx_port.proofs.Lawfully.{both_lives, view_lawful}
 use Rattle.rx_port.proofs.Seating.{length-end, at_end, add_lawful}
 use Rattle.rx_table.specs.Rule.{AreMade, knows_nothing}
 use Rattle.rx_table.specs.Seats.{next_of, maker, made, seen_of, mine_of, leaves, carries, taker, spent_view}
-
-both_lives : (v : View) → v.live ≡ true → v.live ≡ false → ⊥
-both_lives v yes_live no_live = let e : true ≡ false = sym yes_live ∙ no_live in cc
 
 module _ {A : Type 0} where
   pub total-append : (f : A → ℕ) (xs ys : List A) → total f (xs ++ ys) ≡ total f xs + total f ys

@@ -1,7 +1,7 @@
-pub mod Stepping
-pub mod Owning
-pub mod Joining
-pub mod Moves
 pub mod Gathering
-pub mod Copying
-pub mod NewSeats
+mod Stepping
+mod Owning
+mod Joining
+mod Moves
+mod Copying
+mod NewSeats

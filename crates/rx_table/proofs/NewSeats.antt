@@ -17,7 +17,7 @@ use Rattle.rx_port.proofs.Lists.{at_set, inside_list}
 use Rattle.rx_port.proofs.Seating.{length-end, at_end, length-starts, owns_start}
 use Rattle.rx_table.specs.Rule.{knows_nothing}
 use Rattle.rx_table.specs.Seats.{CanMake, next_of, maker, made}
-use Rattle.rx_table.specs.Boards.{Board, Sitting, IsSeatOf, AreSeats, AreNew, new_seat, next_at}
+use Rattle.rx_table.specs.Tables.{SharedTable, SeatView, IsSeatOf, AreSeats, AreNew, new_seat, next_at}
 
 -- a place of the start is one of the object
 start_in : (l : Layout) (o n p : ℕ) → n < l.seats → 0 < times p (start_own (home l o) n) → InRange (home l o) p
@@ -37,61 +37,61 @@ owns_new l known n next below = record {
   once = λ o p there. subst (λ (xs : List ℕ). times p xs ≤ 1) (sym (owns_start l n o there)) (run_once p (first_own (home l o) n) (stock_size (home l o).part));
 }
 
-new_is_seat : (board : Board) (next n : ℕ) → n < board.layout.seats → IsSeatOf board (new_seat board next n)
-new_is_seat board next n below = record { same = refl; owns = owns_new board.layout (Some knows_nothing) n (next_at next n) below; keeps = record { known = knows_nothing; is = refl; all_mine = refl } }
+new_is_seat : (shared : SharedTable) (next n : ℕ) → n < shared.layout.seats → IsSeatOf shared (new_seat shared next n)
+new_is_seat shared next n below = record { same = refl; owns = owns_new shared.layout (Some knows_nothing) n (next_at next n) below; keeps = record { known = knows_nothing; is = refl; all_mine = refl } }
 
 -- new seats are seats of the table
-pub new_seats : (board : Board) (seats : List Sitting) → length seats ≡ board.layout.seats → AreNew board seats → AreSeats board seats
-new_seats board seats many new = record {
+pub new_seats : (shared : SharedTable) (seats : List SeatView) → length seats ≡ shared.layout.seats → AreNew shared seats → AreSeats shared seats
+new_seats shared seats many new = record {
   many = many;
   each = λ n seat at.
       let is = new n seat at in
-      let below = inside_list seats n seat at in (subst (IsSeatOf board) (sym is) (new_is_seat board (length seats) n (omega arith)), ap (λ (x : Sitting). x.view.number) is);
+      let below = inside_list seats n seat at in (subst (IsSeatOf shared) (sym is) (new_is_seat shared (length seats) n (omega arith)), ap (λ (x : SeatView). x.view.number) is);
 }
 
 -- the first seat
-pub new_first : (board : Board) (seat : Sitting) → seat ≡ new_seat board 1 0 → AreNew board (seat ∷ [])
-new_first board seat is zero other at = sym (some-injective seat other at) ∙ is
-new_first board seat is (suc n) other at = absurd (let e = inside_list (seat ∷ []) (suc n) other at in omega arith)
+pub new_first : (shared : SharedTable) (seat : SeatView) → seat ≡ new_seat shared 1 0 → AreNew shared (seat ∷ [])
+new_first shared seat is zero other at = sym (some-injective seat other at) ∙ is
+new_first shared seat is (suc n) other at = absurd (let e = inside_list (seat ∷ []) (suc n) other at in omega arith)
 
-other_next : (board : Board) (m n j : ℕ) → j ≢ 0 → new_seat board m j ≡ new_seat board n j
-other_next board m n zero ne = absurd (ne refl)
-other_next board m n (suc j) ne = refl
+other_next : (shared : SharedTable) (m n j : ℕ) → j ≢ 0 → new_seat shared m j ≡ new_seat shared n j
+other_next shared m n zero ne = absurd (ne refl)
+other_next shared m n (suc j) ne = refl
 
-made_new : (board : Board) (m n : ℕ) → n ≢ 0 → record { view = newcomer board.layout (Some knows_nothing) n None; table = board.table } ≡ new_seat board m n
-made_new board m zero ne = absurd (ne refl)
-made_new board m (suc n) ne = refl
+made_new : (shared : SharedTable) (m n : ℕ) → n ≢ 0 → record { view = newcomer shared.layout (Some knows_nothing) n None; table = shared.table } ≡ new_seat shared m n
+made_new shared m zero ne = absurd (ne refl)
+made_new shared m (suc n) ne = refl
 
 -- the first seat makes one more
-module _ (board : Board) (seats : List Sitting) (old first now : Sitting) (some_there : 0 < length seats) (here : old ≡ get_or seats 0 old) (new : AreNew board seats) where
-  old_is : old ≡ new_seat board (length seats) 0
+module _ (shared : SharedTable) (seats : List SeatView) (old first now : SeatView) (some_there : 0 < length seats) (here : old ≡ get_or seats 0 old) (new : AreNew shared seats) where
+  old_is : old ≡ new_seat shared (length seats) 0
   old_is = new 0 old (at_index seats 0 old some_there here)
 
-  pub may_make : length seats < board.layout.seats → CanMake board.layout old.view
-  may_make room = record { number = length seats; is = ap (λ (x : Sitting). x.view.next) old_is; room = room }
+  pub may_make : length seats < shared.layout.seats → CanMake shared.layout old.view
+  may_make room = record { number = length seats; is = ap (λ (x : SeatView). x.view.next) old_is; room = room }
 
   pub is_next : next_of old.view.next ≡ length seats
-  is_next = ap (λ (x : Sitting). next_of x.view.next) old_is
+  is_next = ap (λ (x : SeatView). next_of x.view.next) old_is
 
   pub is_live : old.view.live ≡ true
-  is_live = ap (λ (x : Sitting). x.view.live) old_is
+  is_live = ap (λ (x : SeatView). x.view.live) old_is
 
-  pub ours : old.table ≡ board.table
-  ours = ap (λ (x : Sitting). x.table) old_is
+  pub ours : old.table ≡ shared.table
+  ours = ap (λ (x : SeatView). x.table) old_is
 
-  pub new_more : first ≡ record { view = maker old.view; table = board.table } → now ≡ record { view = made board.layout old.view; table = board.table } → AreNew board (set seats 0 first ++ now ∷ [])
+  pub new_more : first ≡ record { view = maker old.view; table = shared.table } → now ≡ record { view = made shared.layout old.view; table = shared.table } → AreNew shared (set seats 0 first ++ now ∷ [])
   new_more first_is now_is j seat at =
       let n : ℕ = length seats in
       let same = length-set seats 0 first in
       let many : length (set seats 0 first ++ now ∷ []) ≡ n + 1 = length-end (set seats 0 first) now ∙ ap (λ (m : ℕ). m + 1) same in
-      subst (λ (m : ℕ). seat ≡ new_seat board m j) (sym many) (⊎_elim
+      subst (λ (m : ℕ). seat ≡ new_seat shared m j) (sym many) (⊎_elim
       (λ (x : get_elem? (set seats 0 first) j ≡ some seat). ⊎_elim
       (λ (y : (j ≡ 0) × (first ≡ seat)).
-      sym y.1 ∙ first_is ∙ ap (λ (z : Sitting). record { view = maker z.view; table = board.table }) old_is ∙ ap (new_seat board (n + 1)) (sym y.0))
-      (λ (y : (j ≢ 0) × (get_elem? seats j ≡ some seat)). new j seat y.1 ∙ other_next board n (n + 1) j y.0)
+      sym y.1 ∙ first_is ∙ ap (λ (z : SeatView). record { view = maker z.view; table = shared.table }) old_is ∙ ap (new_seat shared (n + 1)) (sym y.0))
+      (λ (y : (j ≢ 0) × (get_elem? seats j ≡ some seat)). new j seat y.1 ∙ other_next shared n (n + 1) j y.0)
       (at_set seats 0 j first seat x))
       (λ (x : (j ≡ length (set seats 0 first)) × (now ≡ seat)).
       let e = x.0 in
-      sym x.1 ∙ now_is ∙ ap (λ (z : Sitting). record { view = made board.layout z.view; table = board.table }) old_is
-      ∙ made_new board (n + 1) n (λ (z : n ≡ 0). absurd (omega arith)) ∙ ap (new_seat board (n + 1)) (let f : n ≡ j = omega arith in f))
+      sym x.1 ∙ now_is ∙ ap (λ (z : SeatView). record { view = made shared.layout z.view; table = shared.table }) old_is
+      ∙ made_new shared (n + 1) n (λ (z : n ≡ 0). absurd (omega arith)) ∙ ap (new_seat shared (n + 1)) (let f : n ≡ j = omega arith in f))
       (at_end (set seats 0 first) now seat j at))

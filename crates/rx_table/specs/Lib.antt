@@ -1,5 +1,5 @@
 pub mod Rule
 pub mod Seats
-pub mod Boards
+pub mod Tables
 pub mod Closings
 pub mod Rows

@@ -3,7 +3,7 @@ ghost use Rattle.rx_port.specs.Core.{tag_after};
 ghost use Rattle.rx_seq.specs.History.{replay};
 ghost use Rattle.rx_seq.specs.declared.entries.Entry.{Entry};
 ghost use Rattle.rx_shape.specs.Layout.{IsLayout, words_of};
-ghost use Rattle.rx_table.specs.Boards.{IsSeatOf};
+ghost use Rattle.rx_table.specs.Tables.{IsSeatOf};
 ghost use Rattle.rx_table.specs.Closings.{Carried, Closing, HasEnded};
 ghost use Rattle.rx_table.specs.Seats.{carries};
 ghost use Rattle.rx_port.specs.declared.views.Joined.{Joined};
@@ -73,21 +73,21 @@ impl<J: Ends> PerchPlay<History> for Records<J> {
 }
 
 /// Where the last history is recorded, for contracts alone.
-pub type Desk = RuledPerch<u8, View, History, Free>;
+pub type HistoryPerch = RuledPerch<u8, View, History, Free>;
 
 /// Records the last history, which the words and the last seat tell. It is for contracts alone.
 pub fn record_history<J: Ends>(
-    desk: &Desk,
+    perch: &HistoryPerch,
     mark: &mut Mark<History>,
     _layout: &Layout,
     _words: &[u64],
 )
-    requires told { (J.layout ≡ _layout.now) × (J.words ≡ _words.now) × (J.view ≡ desk.now.view) }
-    requires desk { mark.old.perch ≡ desk.now.name }
-    requires closing { (history : List Entry) × Closing _layout.now _words.now desk.now.view history }
-    ensures { Closing _layout.now _words.now desk.now.view mark.new.view.entries }
+    requires told { (J.layout ≡ _layout.now) × (J.words ≡ _words.now) × (J.view ≡ perch.now.view) }
+    requires perch { mark.old.perch ≡ perch.now.name }
+    requires closing { (history : List Entry) × Closing _layout.now _words.now perch.now.view history }
+    ensures { Closing _layout.now _words.now perch.now.view mark.new.view.entries }
 {
-    desk.load::<Records<J>>(mark);
+    perch.load::<Records<J>>(mark);
 }
 
 /// The words of a closed table of atomic words.
@@ -103,23 +103,23 @@ fn copy_words(closed: &atomic_table::Closed<u8, Global>, words: &mut Vec<u64>)
 /// Closes a table with its last seat. The words have the length of the table's.
 pub fn finish(
     layout: Layout,
-    board: Table<u8, View, Layout, Law, Global>,
+    table: Table<u8, View, Layout, Law, Global>,
     last: Seat,
     mut words: Vec<u64>,
 ) -> Closed
-    requires table { (board.shared.key ≡ layout) × (board.shared.table_id.words ≡ words_of layout) × (board.shared.table_id.slots ≡ 0) }
-    requires seat { IsSeatOf (record { layout = layout; table = board.shared.table_id }) last }
+    requires table { (table.shared.key ≡ layout) × (table.shared.table_id.words ≡ words_of layout) × (table.shared.table_id.slots ≡ 0) }
+    requires seat { IsSeatOf (record { layout = layout; table = table.shared.table_id }) last }
     requires limits { IsLayout layout }
     requires words { length words.items ≡ words_of layout }
     ensures layout { result.layout ≡ layout }
     ensures seats { (number : ℕ) (joined : Joined) → get_elem? (carries last.view) number ≡ some joined → Carried result.history joined }
 {
     let Seat { token, own: _ } = last;
-    let (desk, mut mark): (Desk, Mark<History>) = RuledPerch::new(&token, 0);
-    let closed = board.close_with(token);
+    let (perch, mut mark): (HistoryPerch, Mark<History>) = RuledPerch::new(&token, 0);
+    let closed = table.close_with(token);
     copy_words(&closed, &mut words);
     closed.free();
-    record_history::<Brand>(&desk, &mut mark, &layout, words.as_slice());
+    record_history::<Brand>(&perch, &mut mark, &layout, words.as_slice());
     Closed {
         layout,
         words,

@@ -1,7 +1,7 @@
 // Making a seat, and joining one into another, each one step on word 0.
 ghost use Rattle.rx_port.specs.Plain.{lists};
 ghost use Rattle.rx_port.specs.Seats.{starts};
-ghost use Rattle.rx_table.specs.Boards.{Sitting, IsSeatOf, carried};
+ghost use Rattle.rx_table.specs.Tables.{SeatView, IsSeatOf, carried};
 ghost use Rattle.rx_table.specs.Seats.{CanMake, carries, made, maker, next_of, taker};
 ghost use Rattle.std.specs.Prelude.{ℕ, ◌≡◌, ◌<◌, true, [], length};
 ghost use mathlib.Core.Option.{some};
@@ -55,7 +55,7 @@ fn take_in(words: &Words, seat: Seat, other: Seat) -> Seat
 pub fn gather(words: &Words, mut seats: Vec<Seat>) -> Seat
     requires some { 0 < length seats.items }
     requires words { 0 < words.now.table_id.words }
-    requires seats { (number : ℕ) (seat : Sitting) → get_elem? seats.items number ≡ some seat → IsSeatOf (record { layout = words.now.key; table = words.now.table_id }) seat }
+    requires seats { (number : ℕ) (seat : SeatView) → get_elem? seats.items number ≡ some seat → IsSeatOf (record { layout = words.now.key; table = words.now.table_id }) seat }
     ensures seat { IsSeatOf (record { layout = words.now.key; table = words.now.table_id }) result }
     ensures carries { carries result.view ≡ carried seats.items }
 {

@@ -3,17 +3,17 @@
 //! steps.
 #![tactic(auto)]
 
-mod boards;
 mod closings;
 mod joins;
 mod ports;
 mod rules;
 mod seats;
 mod steps;
+mod tables;
 #[cfg(test)]
 mod tests;
 
-pub use boards::{Kept, Opened, Shared};
 pub use closings::Closed;
 pub use ports::SharedPort;
 pub use seats::Seat;
+pub use tables::{Kept, Opened, Shared};

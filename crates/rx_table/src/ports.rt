@@ -2,7 +2,7 @@
 ghost use Rattle.rx_port.specs.Core.{traded_own};
 ghost use Rattle.rx_port.specs.Plain.{lists};
 ghost use Rattle.rx_shape.specs.Asks.{EachBelow};
-ghost use Rattle.rx_table.specs.Boards.{IsSeatOf};
+ghost use Rattle.rx_table.specs.Tables.{IsSeatOf};
 ghost use Rattle.rx_table.specs.Rule.{IsAt};
 ghost use Rattle.std.specs.Prelude.{◌≡◌, ◌<◌, [], length, slice_index_or};
 
@@ -24,10 +24,10 @@ pub struct SharedPort<'a> {
 
 impl<'a> Model for SharedPort<'a> {
     ghost use Rattle.rx_shape.specs.Layout.{IsLayout, words_of};
-    ghost use Rattle.rx_table.specs.Boards.{Board};
+    ghost use Rattle.rx_table.specs.Tables.{SharedTable};
     ghost use Rattle.std.specs.Prelude.{◌≡◌};
 
-    ghost Value = { Board };
+    ghost Value = { SharedTable };
 
     ghost view = { λ p. record { layout = p.words.now.key; table = p.words.now.table_id } };
 

@@ -13,10 +13,10 @@ pub struct Seat {
 
 impl Model for Seat {
     ghost use Rattle.rx_port.specs.Plain.{lists};
-    ghost use Rattle.rx_table.specs.Boards.{Sitting};
+    ghost use Rattle.rx_table.specs.Tables.{SeatView};
     ghost use Rattle.std.specs.Prelude.{◌≡◌, []};
 
-    ghost Value = { Sitting };
+    ghost Value = { SeatView };
 
     ghost view = { λ s. record { view = s.token.me.0; table = s.token.table_id } };
 

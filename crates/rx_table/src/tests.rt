@@ -1,5 +1,5 @@
 // A table of a cell and a queue, with two seats.
-ghost use Rattle.rx_table.specs.Boards.{AreSeats, IsSeatOf};
+ghost use Rattle.rx_table.specs.Tables.{AreSeats, IsSeatOf};
 ghost use Rattle.rx_table.specs.Rows.{small};
 ghost use Rattle.std.specs.Prelude.{◌≡◌, IfOk};
 

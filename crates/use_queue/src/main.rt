@@ -3,7 +3,7 @@
 #![tactic(auto)]
 
 ghost use Rattle.rx_seq.specs.declared.kinds.Kind.TheVariants.{Queue};
-ghost use Rattle.rx_table.specs.Boards.{IsSeatOf};
+ghost use Rattle.rx_table.specs.Tables.{IsSeatOf};
 ghost use Rattle.std.specs.Prelude.{◌≡◌, ◌<◌, [], ◌∷◌, IfOk, length};
 
 use rx_object::{Outcome, Runner};

@@ -1,5 +1,5 @@
 use Rattle.std.specs.Prelude.{◌≡◌}
-use Rattle.rx_table.specs.Boards.{IsSeatOf}
+use Rattle.rx_table.specs.Tables.{IsSeatOf}
 use Rattle.use_queue.proofs.put_numbers.Given as goal
 
 abbrev pub invariant-loop-v : goal.invariant-loop-v

@@ -1,5 +1,5 @@
 use Rattle.std.specs.Prelude.{◌≡◌}
-use Rattle.rx_table.specs.Boards.{IsSeatOf}
+use Rattle.rx_table.specs.Tables.{IsSeatOf}
 use Rattle.use_queue.proofs.take_numbers.Given as goal
 
 abbrev pub invariant-loop : goal.invariant-loop

@@ -1,4 +1,4 @@
-use Rattle.rx_table.specs.Boards.{IsSeatOf}
+use Rattle.rx_table.specs.Tables.{IsSeatOf}
 use Rattle.rx_bench.proofs.lanes.fill.Given as goal
 
 abbrev pub invariant-loop-number : goal.invariant-loop-number

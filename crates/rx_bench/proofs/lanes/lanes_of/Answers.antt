@@ -1,5 +1,5 @@
 use Rattle.std.proofs.Common.{◌≡◌, length, length-append, ap, ◌∙◌, arith}
-use Rattle.rx_table.specs.Boards.{IsSeatOf}
+use Rattle.rx_table.specs.Tables.{IsSeatOf}
 use Rattle.rx_table.proofs.Gathering.{each_popped}
 use Rattle.rx_bench.proofs.Making.{no_lanes, one_lane_more}
 use Rattle.rx_bench.proofs.lanes.lanes_of.Goals.{then-is_empty, else-is_empty}

@@ -1,5 +1,5 @@
 use Rattle.std.specs.Prelude.{◌≤◌}
-use Rattle.rx_table.specs.Boards.{IsSeatOf}
+use Rattle.rx_table.specs.Tables.{IsSeatOf}
 use Rattle.rx_bench.specs.Lanes.{HasMade}
 use Rattle.rx_bench.proofs.lanes.run.Given as goal
 

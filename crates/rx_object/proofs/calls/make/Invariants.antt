@@ -2,7 +2,7 @@ use Rattle.std.specs.Prelude.{◌≡◌, ◌-◌, ◌^◌}
 use Rattle.rx_port.specs.Core.{tag_after}
 use Rattle.rx_shape.specs.Layout.{home}
 use Rattle.rx_machine.specs.Operations.{fresh}
-use Rattle.rx_table.specs.Boards.{IsSeatOf}
+use Rattle.rx_table.specs.Tables.{IsSeatOf}
 use Rattle.rx_table.specs.Seats.{seen_of}
 use Rattle.rx_object.specs.Calls.{HasWaited}
 use Rattle.rx_object.proofs.calls.make.Given as goal

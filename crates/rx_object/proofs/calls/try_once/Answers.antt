@@ -15,9 +15,9 @@ loop-machine-preserved-in-Going c =
       same = next ∙ c.loop-machine.invariant.same;
       live = ap (λ (m : Operation). m.ended) next ∙ c.loop-machine.invariant.live;
       follows = c.in-Going.ensures.follows;
-      port = same_port c.loop-machine.port c.step.new.port c.loop-machine.seat c.in-Going.ensures.layout c.loop-machine.invariant.ours (c.in-Going.ensures.others c.loop-machine.seat c.loop-machine.invariant.ours) ∙ c.loop-machine.invariant.port;
-      ours = c.in-Going.ensures.ours;
-      so_far = subst (λ (x : Layout × ℕ). IsInAttempt x.0 x.1 c.args.seat.now.view c.step.new.seat.view new.progress) (λ k. (sym c.in-Going.ensures.layout k, (sym next k).object)) on;
+      port = same_port c.loop-machine.port c.step.new.port c.loop-machine.seat c.in-Going.ensures.port.layout c.loop-machine.invariant.ours (c.in-Going.ensures.port.others c.loop-machine.seat c.loop-machine.invariant.ours) ∙ c.loop-machine.invariant.port;
+      ours = c.in-Going.ensures.port.ours;
+      so_far = subst (λ (x : Layout × ℕ). IsInAttempt x.0 x.1 c.args.seat.now.view c.step.new.seat.view new.progress) (λ k. (sym c.in-Going.ensures.port.layout k, (sym next k).object)) on;
     }
 
 pub returns-in-Won-clause-tells : goal.returns-in-Won-clause-tells

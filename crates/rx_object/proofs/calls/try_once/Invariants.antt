@@ -1,6 +1,7 @@
 use Rattle.std.specs.Prelude.{◌≡◌, ◌-◌}
-use Rattle.rx_machine.specs.Operations.{Follows, attempt_steps, lost, position}
-use Rattle.rx_table.specs.Boards.{IsSeatOf}
+use Rattle.rx_seq.specs.Table.{attempt_steps}
+use Rattle.rx_machine.specs.Operations.{Follows, lost, position}
+use Rattle.rx_table.specs.Tables.{IsSeatOf}
 use Rattle.rx_object.proofs.Trying.{IsInAttempt}
 use Rattle.rx_object.proofs.calls.try_once.Given as goal
 

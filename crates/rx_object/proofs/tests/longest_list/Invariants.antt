@@ -1,4 +1,4 @@
-use Rattle.rx_table.specs.Boards.{AreSeats}
+use Rattle.rx_table.specs.Tables.{AreSeats}
 use Rattle.rx_object.proofs.tests.longest_list.Given as goal
 
 abbrev pub invariant-loop-k : goal.invariant-loop-k

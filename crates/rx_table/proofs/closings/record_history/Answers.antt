@@ -2,7 +2,7 @@ use Rattle.rx_table.proofs.closings.record_history.Goals as goal
 
 pub load-requires : goal.load-requires
 load-requires g c = (
-  c.requires.desk,
+  c.requires.perch,
   (λ n views holds at small. (
     record { entries = c.requires.closing.0 },
     tt,

@@ -1,5 +1,5 @@
 use Rattle.std.proofs.Common.{◌≡◌, ◌++◌}
-use Rattle.rx_table.specs.Boards.{IsSeatOf, carried}
+use Rattle.rx_table.specs.Tables.{IsSeatOf, carried}
 use Rattle.rx_table.specs.Seats.{carries}
 use Rattle.rx_table.proofs.Gathering.{EachOf}
 use Rattle.rx_table.proofs.joins.gather.Given as goal

@@ -1,5 +1,5 @@
 use Rattle.std.specs.Prelude.{◌≡◌}
-use Rattle.rx_table.specs.Boards.{IsSeatOf}
+use Rattle.rx_table.specs.Tables.{IsSeatOf}
 use Rattle.rx_object.proofs.thread_tests.Worker.run.Given as goal
 
 abbrev pub invariant-loop-step : goal.invariant-loop-step

@@ -1,7 +1,7 @@
 use Rattle.std.proofs.Common.{arith}
 use Rattle.rx_port.specs.Core.{one_load}
 use Rattle.rx_shape.proofs.Numbering.{in_words}
-use Rattle.rx_port.proofs.BankSteps.{read_from, place_read, still_ours}
+use Rattle.rx_port.proofs.BankSteps.{read_from, place_read, seats_stay}
 use Rattle.rx_port.proofs.banks.BankPort.read.Goals as goal
 
 pub index-word-requires : goal.index-word-requires
@@ -18,7 +18,7 @@ invariant_of-self c =
     let range = rw (← c.self.view_is) at c.requires.range in
     let is = rw (← c.self.view_is) at c.requires.open.is in
     let word = place_read c.self.inside.layout c.self.inside.words.items _ c.self.invariant.history c.args.object c.args.place _ c.self.invariant.lawful exists range c.index-word.ensures in
-    (read_from c.self.inside.layout c.self.inside.words.items c.self.inside.desks.items c.self.inside.counts c.args.seat.now ours.there c.self.invariant c.read.new.desk c.index_mut.result.now c.index_mut.ensures.value
+    (read_from c.self.inside.layout c.self.inside.words.items c.self.inside.seats.items c.self.inside.counts c.args.seat.now ours.there c.self.invariant c.read.new.seat c.index_mut.result.now c.index_mut.ensures.value
     c.requires.open.attempt c.args.place c.index-word.result.now is word c.read.ensures).0
 
 pub returns-clause-event : goal.returns-clause-event
@@ -28,15 +28,10 @@ returns-clause-event c attempt open_is =
     let range = rw (← c.self.view_is) at c.requires.range in
     let is = rw (← c.self.view_is) at open_is in
     let word = place_read c.self.inside.layout c.self.inside.words.items _ c.self.invariant.history c.args.object c.args.place _ c.self.invariant.lawful exists range c.index-word.ensures in
-    rw (← c.self.view_is) (read_from c.self.inside.layout c.self.inside.words.items c.self.inside.desks.items c.self.inside.counts c.args.seat.now ours.there c.self.invariant c.read.new.desk c.index_mut.result.now c.index_mut.ensures.value
+    rw (← c.self.view_is) (read_from c.self.inside.layout c.self.inside.words.items c.self.inside.seats.items c.self.inside.counts c.args.seat.now ours.there c.self.invariant c.read.new.seat c.index_mut.result.now c.index_mut.ensures.value
     attempt c.args.place c.index-word.result.now is word c.read.ensures).1
 
-pub returns-clause-ours : goal.returns-clause-ours
-returns-clause-ours c =
+pub returns-clause-port : goal.returns-clause-port
+returns-clause-port c =
     let ours = rw (← c.self.view_is) at c.requires.ours in
-    still_ours c.self.inside.layout c.self.inside.words.items c.self.inside.desks.items c.self.inside.counts c.args.seat.now ours.there c.self.inside.words.items (one_load c.self.inside.counts) c.read.new.desk (invariant_of-self c) c.args.seat.now ours.there
-
-pub returns-clause-others : goal.returns-clause-others
-returns-clause-others c other h =
-    let ours = rw (← c.self.view_is) at c.requires.ours in
-    still_ours c.self.inside.layout c.self.inside.words.items c.self.inside.desks.items c.self.inside.counts c.args.seat.now ours.there c.self.inside.words.items (one_load c.self.inside.counts) c.read.new.desk (invariant_of-self c) other (rw (← c.self.view_is) at h).there
+    rw (← c.self.view_is) (seats_stay c.self.inside.layout c.self.inside.words.items c.self.inside.seats.items c.self.inside.counts c.args.seat.now ours.there c.self.inside.words.items (one_load c.self.inside.counts) c.read.new.seat (invariant_of-self c) (omega arith, omega arith, omega arith))

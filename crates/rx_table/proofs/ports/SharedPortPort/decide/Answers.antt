@@ -1,4 +1,4 @@
-use Rattle.std.proofs.Common.{◌∙◌}
+use Rattle.std.proofs.Common.{refl, ◌∙◌}
 use Rattle.rx_table.proofs.Owning.{attempt_is, pairs_place, ours_decided}
 use Rattle.rx_table.proofs.ports.SharedPortPort.decide.Goals as goal
 
@@ -15,10 +15,10 @@ returns-clause-event c attempt is =
     let e = rw (c.as_slice-pairs.ensures.value, attempt_is c.seat.inside.token.me.0.attempt attempt is') at c.decide-found.ensures.event in
     rw (← c.self.view_is, ← c.seat.view_is) e
 
-pub returns-clause-ours : goal.returns-clause-ours
-returns-clause-ours c =
+pub returns-clause-port : goal.returns-clause-port
+returns-clause-port c =
     let ours = rw (← c.self.view_is, ← c.seat.view_is) at c.requires.ours in
     let ready = rw (← c.self.view_is, ← c.seat.view_is) at c.requires.ready in
     let e = rw (c.as_slice-pairs.ensures.value, attempt_is c.seat.inside.token.me.0.attempt ready.attempt ready.decision.is_open) at c.decide-found.ensures.event in
     let both = ours_decided c.self.inside.words.now.key c.seat.inside.token.me.0 c.decide-found.new.seat.me.0 ours.owns ours.keeps ready.attempt c.args.new c.args.trade.now.pairs.items c.decide-found.result ready.decision e in
-    rw (← c.self.view_is) (record { same = c.decide-found.ensures.same.0 ∙ ours.same; owns = both.0; keeps = both.1 })
+    rw (← c.self.view_is) (record { layout = refl; ours = record { same = c.decide-found.ensures.same.0 ∙ ours.same; owns = both.0; keeps = both.1 }; others = λ other h. h; room = λ n h. h })

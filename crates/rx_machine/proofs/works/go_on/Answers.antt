@@ -1,5 +1,0 @@
-use Rattle.rx_machine.proofs.Idlings.{idle_steps}
-use Rattle.rx_machine.proofs.works.go_on.Goals as goal
-
-pub returns-clause-stepped : goal.returns-clause-stepped
-returns-clause-stepped g c = idle_steps _ _ _ _ _ c.args.work.now c.requires.going c.in_default.ensures c.if-work.false
