@@ -1,13 +1,15 @@
+pub mod Elements
 pub mod Counts
-pub mod Pigeons
+pub mod Exposed
 pub mod Ranks
 pub mod Releases
 pub mod Keys
-pub mod Orders
 pub mod Readings
-pub mod Kept
-pub mod Draws
-pub mod ValidSets
 pub mod Totals
 pub mod Firsts
-pub mod LeastTimes
+mod Pigeons
+mod Orders
+mod Kept
+mod Draws
+mod ValidSets
+mod LeastTimes

@@ -1,12 +1,11 @@
 -- What code reads of a set is what clauses see.
-use Rattle.std.proofs.Common.{ℕ, ◌≡◌, ◌≤◌, ◌<◌, ◌+◌, ◌-◌, ◌*◌, ◌^◌, List, [], ◌∷◌, ◌++◌, length, get_or, take, map, count_by, add-one, sym, subst, ap, ◌∙◌, arith}
-use Rattle.std.proofs.lemmas.List.{get_or-map, length-map, map-append}
+use Rattle.std.proofs.Common.{ℕ, ◌≡◌, ◌≤◌, ◌<◌, ◌+◌, ◌-◌, ◌*◌, ◌^◌, List, [], ◌∷◌, ◌++◌, length, get_or, take, map, count_by, add-one, sym, subst, ap, ◌∙◌, arith, All}
+use Rattle.std.proofs.lemmas.List.{get_or-map, get_or_default, length-map, map-append}
 use Rattle.std.proofs.Math.Seq.{take-suc}
 use Rattle.std.proofs.lemmas.Option.{slice_get-get_or}
-use Rattle.rx_seq.specs.declared.kinds.Kind.{Kind}
-use Rattle.rx_seq.specs.declared.kinds.Kind.TheVariants.{Cell, Queue, Registers, List as Ordered}
-use Rattle.rx_seq.specs.Table.{IsCap, IsPart}
+use Rattle.rx_seq.specs.Table.{IsPart}
 use Rattle.rx_seq.specs.History.{no_part, part_at}
+use Rattle.rx_seq.proofs.Attempts.{few_steps}
 use Rattle.std.specs.Prelude.{slice_get}
 use Rattle.rx_set.specs.declared.policies.Policy.{Policy}
 use Rattle.rx_set.specs.declared.demands.Demand.{Demand}
@@ -15,9 +14,10 @@ use Rattle.rx_set.specs.declared.items.Item.TheVariants.{Work}
 use Rattle.rx_set.specs.declared.jobs.Job.{Job}
 use Rattle.rx_set.specs.declared.objects.Object.{Object}
 use Rattle.rx_set.specs.declared.tasks.Task.{Task}
-use Rattle.rx_set.specs.System.{System, ObjectRow, TaskRow, no_task, task_at, task_of, part_of_row, parts_of, attempt_by, attempt_cost, rank, is_ahead, numbers}
+use Rattle.rx_set.specs.System.{System, ObjectRow, TaskRow, no_task, task_at, task_of, part_of_row, parts_of, attempt_cost, rank, is_ahead, numbers}
 use Rattle.rx_set.specs.Valid.{IsValid, IsItem, IsJob}
 use Rattle.rx_set.specs.View.{object_row, row_of, system_of}
+use Rattle.rx_set.specs.Charges.{exposure}
 use Rattle.rx_set.specs.Ranked.{IsTaskSet}
 use Rattle.rx_set.proofs.Counts.{length-numbers, get_or-map_numbers}
 use Rattle.rx_set.proofs.Ranks.{rank_found}
@@ -51,7 +51,7 @@ job_bound shown job task valid known is =
     )
 
 -- the part of an object
-part_here : (policy : Policy) (objects : List Object) (tasks : List Task) (demands : List Demand) (k : ℕ) (object : Object) → k < length objects → object ≡ get_or objects k object
+pub part_here : (policy : Policy) (objects : List Object) (tasks : List Task) (demands : List Demand) (k : ℕ) (object : Object) → k < length objects → object ≡ get_or objects k object
     → part_at (parts_of (system_of policy objects tasks demands)) k ≡ object.part
 part_here policy objects tasks demands k object known is =
     get_or-map part_of_row (map object_row objects) k no_object no_part (omega (arith, length-map objects object_row))
@@ -64,18 +64,18 @@ part_read policy objects tasks demands shown k object is known same =
     let here : P (system_of policy objects tasks demands) = λ inside. part_here policy objects tasks demands k object (omega (arith, length-map objects object_row)) same in
     subst P is here known
 
--- an attempt takes few ticks
-attempt_by_bound : (kind : Kind) (cap : ℕ) → IsCap kind cap → (2 ≤ attempt_by kind cap) × (attempt_by kind cap ≤ 134)
-attempt_by_bound Cell cap is = (omega arith, omega arith)
-attempt_by_bound Queue cap is = (omega (arith, is.1), omega (arith, is.1))
-attempt_by_bound Ordered cap is = (omega (arith, is.1), omega (arith, is.1))
-attempt_by_bound Registers cap is = (omega (arith, is.1), omega (arith, is.1))
-
-pub attempt_bound : (system : System) (object : ℕ) → IsValid system → object < length system.objects → (2 ≤ attempt_cost system object) × (attempt_cost system object ≤ 134)
-attempt_bound system object valid known =
+-- an object of a valid set is in its limits, and an attempt on it takes few ticks
+pub part_valid : (system : System) (object : ℕ) → IsValid system → object < length system.objects → IsPart (part_at (parts_of system) object)
+part_valid system object valid known =
     let row = valid.objects object (get_or system.objects object no_object) (slice_get-get_or system.objects object no_object known) in
     let part = get_or-map part_of_row system.objects object no_object no_part known in
-    attempt_by_bound (part_at (parts_of system) object).kind (part_at (parts_of system) object).cap (subst IsPart (sym part) row.part)
+    subst IsPart (sym part) row.part
+
+pub parts_valid : (system : System) → IsValid system → All IsPart (parts_of system)
+parts_valid system valid = λ k d within. subst IsPart (sym (get_or_default (parts_of system) k d no_part within)) (part_valid system k valid (omega (arith, within, length-map system.objects part_of_row)))
+
+pub attempt_bound : (system : System) (object : ℕ) → IsValid system → object < length system.objects → (2 ≤ attempt_cost system object) × (attempt_cost system object ≤ 134)
+attempt_bound system object valid known = few_steps (part_at (parts_of system) object) (part_valid system object valid known)
 
 -- the items of a task
 pub items_read : (policy : Policy) (objects : List Object) (tasks : List Task) (demands : List Demand) (shown : System) (k : ℕ) (task : Task) (items : List Item) → system_of policy objects tasks demands ≡ shown → k < length shown.tasks
@@ -109,27 +109,40 @@ rank_counted policy tasks k count is =
 pub map_numbers_more : (f : ℕ → ℕ) (n : ℕ) → map f (numbers (n + 1)) ≡ map f (numbers n) ++ f n ∷ []
 map_numbers_more f n = rw add-one (map-append f (numbers n) (n ∷ []))
 
-length-ranks : (system : System) (ranks order : List ℕ) → IsTaskSet system ranks order → length ranks ≡ length system.tasks
-length-ranks system ranks order set =
+length-ranks : (system : System) (ranks exposures order : List ℕ) → IsTaskSet system ranks exposures order → length ranks ≡ length system.tasks
+length-ranks system ranks exposures order set =
     ap length set.all_ranks ∙ length-map (numbers (length system.tasks)) (rank system) ∙ length-numbers (length system.tasks)
 
-pub rank_in_range : (system shown : System) (ranks order read : List ℕ) (k : ℕ) → system ≡ shown → IsTaskSet system ranks order → read ≡ ranks → k < length shown.tasks → k < length read
-rank_in_range system shown ranks order read k is set same known = let known_here : k < length system.tasks = rw is known in omega (arith, ap length same, length-ranks system ranks order set)
+pub rank_in_range : (system shown : System) (ranks exposures order read : List ℕ) (k : ℕ) → system ≡ shown → IsTaskSet system ranks exposures order → read ≡ ranks → k < length shown.tasks → k < length read
+rank_in_range system shown ranks exposures order read k is set same known = let known_here : k < length system.tasks = rw is known in omega (arith, ap length same, length-ranks system ranks exposures order set)
 
-pub rank_read : (system shown : System) (ranks order read : List ℕ) (k : ℕ) → system ≡ shown → IsTaskSet system ranks order → read ≡ ranks → k < length shown.tasks → get_or read k 0 ≡ rank shown k
-rank_read system shown ranks order read k is set same known =
+pub rank_read : (system shown : System) (ranks exposures order read : List ℕ) (k : ℕ) → system ≡ shown → IsTaskSet system ranks exposures order → read ≡ ranks → k < length shown.tasks → get_or read k 0 ≡ rank shown k
+rank_read system shown ranks exposures order read k is set same known =
     let P : System → Type 0 = λ s. k < length s.tasks → get_or read k 0 ≡ rank s k in
     let here : P system = λ inside. ap (λ xs. get_or xs k 0) (same ∙ set.all_ranks) ∙ get_or-map_numbers (rank system) (length system.tasks) k inside in
     subst P is here known
 
-pub rank_read_back : (system shown : System) (ranks order read : List ℕ) (k : ℕ) → system ≡ shown → IsTaskSet system ranks order → read ≡ ranks → k < length read → k < length shown.tasks
-rank_read_back system shown ranks order read k is set same known = let equal : length system.tasks ≡ length shown.tasks = ap (λ (s : System). length s.tasks) is in omega (arith, ap length same, length-ranks system ranks order set)
+pub rank_read_back : (system shown : System) (ranks exposures order read : List ℕ) (k : ℕ) → system ≡ shown → IsTaskSet system ranks exposures order → read ≡ ranks → k < length read → k < length shown.tasks
+rank_read_back system shown ranks exposures order read k is set same known = let equal : length system.tasks ≡ length shown.tasks = ap (λ (s : System). length s.tasks) is in omega (arith, ap length same, length-ranks system ranks exposures order set)
 
 -- some place of the table has each rank
-pub rank_somewhere : (system shown : System) (ranks order : List ℕ) (r end : ℕ) → system ≡ shown → IsTaskSet system ranks order → 1 ≤ r → r ≤ length shown.tasks → length ranks ≤ end
+pub rank_somewhere : (system shown : System) (ranks exposures order : List ℕ) (r end : ℕ) → system ≡ shown → IsTaskSet system ranks exposures order → 1 ≤ r → r ≤ length shown.tasks → length ranks ≤ end
     → ((k : ℕ) → k < end → get_or ranks k 0 ≡ r → ⊥) → ⊥
-rank_somewhere system shown ranks order r end is set first last all nowhere =
+rank_somewhere system shown ranks exposures order r end is set first last all nowhere =
     let equal : length system.tasks ≡ length shown.tasks = ap (λ (s : System). length s.tasks) is in
     let found = rank_found system r first (omega arith) in
-    nowhere found.0 (omega (arith, found.1, length-ranks system ranks order set))
+    nowhere found.0 (omega (arith, found.1, length-ranks system ranks exposures order set))
     (ap (λ xs. get_or xs found.0 0) set.all_ranks ∙ get_or-map_numbers (rank system) (length system.tasks) found.0 found.1 ∙ found.2)
+
+-- the exposures that are read
+pub exposure_in_range : (system shown : System) (ranks exposures order read : List ℕ) (k : ℕ) → system ≡ shown → IsTaskSet system ranks exposures order → read ≡ exposures → k < length shown.tasks → k < length read
+exposure_in_range system shown ranks exposures order read k is set same known =
+    let known_here : k < length system.tasks = rw is known in
+    let many : length exposures ≡ length system.tasks = ap length set.all_exposures ∙ length-map (numbers (length system.tasks)) (exposure system) ∙ length-numbers (length system.tasks) in
+    omega (arith, ap length same, many)
+
+pub exposure_read : (system shown : System) (ranks exposures order read : List ℕ) (k : ℕ) → system ≡ shown → IsTaskSet system ranks exposures order → read ≡ exposures → k < length shown.tasks → get_or read k 0 ≡ exposure shown k
+exposure_read system shown ranks exposures order read k is set same known =
+    let P : System → Type 0 = λ s. k < length s.tasks → get_or read k 0 ≡ exposure s k in
+    let here : P system = λ inside. ap (λ xs. get_or xs k 0) (same ∙ set.all_exposures) ∙ get_or-map_numbers (exposure system) (length system.tasks) k inside in
+    subst P is here known

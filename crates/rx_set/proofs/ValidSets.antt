@@ -5,7 +5,6 @@ use Rattle.std.specs.List.{All}
 use Rattle.std.proofs.lemmas.Bool.Decides.{nat_tests}
 use Rattle.std.proofs.lemmas.List.{map-append}
 use Rattle.std.proofs.lemmas.List.Elements.{All-nil, All-push}
-use Rattle.std.proofs.lemmas.Option.{slice_get_within, get_or_from_slice_get}
 use Rattle.rx_seq.specs.declared.calls.Call.TheVariants.{Add, Put, Take, Insert, Remove}
 use Rattle.rx_set.specs.declared.policies.Policy.{Policy}
 use Rattle.rx_set.specs.declared.items.Item.{Item}
@@ -15,6 +14,7 @@ use Rattle.rx_set.specs.System.{System, TaskRow, no_task, task_at, numbers}
 use Rattle.rx_set.specs.Valid.{IsValid, KeepsCosts, IsItem, IsObjectRow, IsTaskRow, task_name}
 use Rattle.rx_set.specs.Generator.{Drawn, draw, in_turn, four_objects, with_number, with_none, work, ways, transaction, item_drawn, name_of, task_drawn, policy_drawn, set_drawn, seeded, generated}
 use Rattle.rx_set.proofs.Draws.{draw_below, length_in_turn}
+use Rattle.rx_set.proofs.Elements.{at_place}
 
 -- a set of the four objects
 abbrev around : Policy → List TaskRow → System
@@ -30,9 +30,6 @@ each_drawn P thing (suc n) good state =
 
 none_at : {X : Type 0} (place : ℕ) (x : X) → slice_get [] place ≡ Some x → ⊥
 none_at place x e = cc
-
-at_place : {X : Type 0} (P : X → Type 0) (xs : List X) (place : ℕ) (x : X) → All P xs → slice_get xs place ≡ Some x → P x
-at_place P xs place x all e = rw (get_or_from_slice_get xs place x x e) at (all place x (slice_get_within xs place x e))
 
 -- a way that draws items of such a set
 abbrev IsWay : System → (List ℕ → Drawn Item) → Type 0

@@ -1,6 +1,8 @@
--- The admission tests: whether the tasks fit the processor, although attempts may be repeated. Both charge each release that can preempt with one retry.
+-- The admission tests: whether the tasks fit the processor, although attempts may be repeated. Both charge each release with
+-- one lost attempt of those that it can preempt.
 use Rattle.std.specs.Prelude.{ℕ, zero, suc, ◌+◌, ◌-◌, ◌*◌, ◌/◌, ◌==◌, ◌≤◌, ◌<◌, nat_le, nat_lt, Bool, true, false, if◌then◌else◌, length, filter, get_or, Option, Some, None}
-use Rattle.rx_set.specs.System.{System, task_at, numbers, rank, cost, retry_cost}
+use Rattle.rx_set.specs.System.{System, task_at, numbers, rank, cost}
+use Rattle.rx_set.specs.Charges.{charge, charge_edf, where_passed}
 
 -- f 0 + f 1 + .. + f (n - 1)
 abbrev pub total : (ℕ → ℕ) → ℕ → ℕ
@@ -35,15 +37,23 @@ ceiling t period = (t + period - 1) / period
 abbrev pub cost_to : System → ℕ → ℕ → ℕ → ℕ
 cost_to system place t task = if nat_le (rank system task) place then ceiling t (task_at system task).period * cost system task else 0
 
--- how many of a task's jobs are released strictly inside t ticks, if its rank is below a given one: each can spoil an
--- attempt
-abbrev pub spoils_to : System → ℕ → ℕ → ℕ → ℕ
-spoils_to system place t task = if nat_lt (rank system task) place then ceiling (t - 1) (task_at system task).period else 0
+-- what a task's jobs that are released strictly inside t ticks are charged, if its rank is below a given one: each can
+-- preempt a job of a rank up to that one, whose attempt is then lost
+abbrev pub charge_to : System → (ℕ → ℕ) → ℕ → ℕ → ℕ → ℕ
+charge_to system charges place t task = where_passed (nat_lt (rank system task) place) (ceiling (t - 1) (task_at system task).period * charges task)
 
--- what the tasks of a rank and of those before it need in t ticks: their stated costs for each release, and one retry
--- for each release of the earlier ones strictly inside
+-- what the tasks up to a rank need in t ticks, with any charges: their stated costs for each release, and the charge of each
+-- release of the earlier ones strictly inside
+abbrev pub charged_need : System → (ℕ → ℕ) → ℕ → ℕ → ℕ
+charged_need system charges place t = total (cost_to system place t) (length system.tasks) + total (charge_to system charges place t) (length system.tasks)
+
+-- a task is charged by its rank
+abbrev pub charge_of : System → ℕ → ℕ → ℕ
+charge_of system place task = charge system place (rank system task)
+
+-- what the tasks up to a rank need in t ticks
 abbrev pub need : System → ℕ → ℕ → ℕ
-need system place t = total (cost_to system place t) (length system.tasks) + retry_cost system * total (spoils_to system place t) (length system.tasks)
+need system place t = charged_need system (charge_of system place) place t
 
 -- t ticks serve a task: they are no more than its deadline, and what its rank and those before it need in them fits into them
 pub record Serves (system : System) (task t : ℕ) : Type 0 where
@@ -67,9 +77,9 @@ unserved system = first_to (λ place. is_none (least_time system place)) (length
 abbrev pub due_jobs : ℕ → ℕ → ℕ → ℕ
 due_jobs t period deadline = (t + period - deadline) / period
 
--- what the jobs of a task that are released and due in t ticks need, each with one retry that it can make another job's attempt repeat
+-- what the jobs of a task that are released and due in t ticks need, each with the attempt that it can cost another job
 abbrev pub due_cost : System → ℕ → ℕ → ℕ
-due_cost system t task = due_jobs t (task_at system task).period (task_at system task).deadline * (cost system task + retry_cost system)
+due_cost system t task = due_jobs t (task_at system task).period (task_at system task).deadline * (cost system task + charge_edf system task)
 
 -- what all tasks need for the jobs that are released and due in t ticks
 abbrev pub due_need : System → ℕ → ℕ

@@ -100,9 +100,16 @@ two_due = refl
 pub four_due : due_need crowded 3 ≡ 4
 four_due = refl
 
--- one more retry for each job that is due
-pub with_retry : due_need (system Edf Cell (task 4 4 (Op 0 (Add 1) ∷ []) ∷ [])) 4 ≡ 4
+-- nobody can spoil the attempts of a task that is alone, and nobody those of the shorter deadline; each job of that one is
+-- charged one attempt of the other
+pub without_retry : due_need (system Edf Cell (task 4 4 (Op 0 (Add 1) ∷ []) ∷ [])) 4 ≡ 2
+without_retry = refl
+
+pub with_retry : due_need (system Edf Cell (task 4 4 (Op 0 (Add 1) ∷ []) ∷ task 8 8 (Op 0 (Add 1) ∷ []) ∷ [])) 4 ≡ 4
 with_retry = refl
+
+pub both_due : due_need (system Edf Cell (task 4 4 (Op 0 (Add 1) ∷ []) ∷ task 8 8 (Op 0 (Add 1) ∷ []) ∷ [])) 8 ≡ 10
+both_due = refl
 
 pub none_due : due_jobs 3 10 4 ≡ 0
 none_due = refl

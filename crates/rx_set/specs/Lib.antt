@@ -5,7 +5,10 @@ pub mod View
 pub mod Operations
 pub mod Orders
 pub mod Ranked
+pub mod Charges
+pub mod Exposures
 pub mod Admission
 pub mod Generator
 pub mod Rows
 pub mod AdmissionRows
+pub mod ChargeRows

@@ -1,6 +1,7 @@
 -- Worked rows of names, ranks, times, keys, demands, costs, also of an attempt and of a retry, and of two whole
 -- drawn sets.
 use Rattle.std.specs.Prelude.{ℕ, ◌≡◌, true, false, refl, List, [], ◌∷◌, codes, Some}
+use Rattle.rx_seq.specs.Table.{attempt_by}
 use Rattle.rx_seq.specs.declared.kinds.Kind.TheVariants.{Cell, Queue, Registers, List as Ordered}
 use Rattle.rx_seq.specs.declared.calls.Call.TheVariants.{Get, Add, Put, Take, Insert, Remove, Multi}
 use Rattle.rx_seq.specs.declared.calls.Row.{Row}
@@ -14,7 +15,7 @@ use Rattle.rx_set.specs.declared.jobs.Job.{Job}
 use Rattle.rx_set.specs.declared.jobs.Key.{Key}
 use Rattle.rx_set.specs.Generator.{draw, four_objects, item_drawn, task_drawn, set_drawn, seeded, generated}
 use Rattle.rx_set.specs.Names.{is_name, has_repeat}
-use Rattle.rx_set.specs.System.{System, TaskRow, rank, release, due, key, is_below, ticks_of, item_at, attempt_by, attempt_cost, cost, retry_cost}
+use Rattle.rx_set.specs.System.{System, TaskRow, rank, release, due, key, is_below, ticks_of, item_at, attempt_cost, cost, retry_cost}
 
 abbrev task : ℕ → ℕ → ℕ → List Item → TaskRow
 task period deadline offset items = record { name = codes "t"; period = period; deadline = deadline; offset = offset; items = items }

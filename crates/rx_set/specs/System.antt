@@ -1,8 +1,7 @@
 -- A system of tasks and objects, as clauses see it: releases, deadlines, ranks, keys, demands and costs.
 use Rattle.std.specs.Prelude.{ℕ, zero, suc, ◌+◌, ◌-◌, ◌*◌, ◌==◌, ◌&&◌, ◌||◌, nat_lt, Bool, if◌then◌else◌, List, [], ◌∷◌, ◌++◌, length, get_or, slice_get, count_by, sum_by, map, Option, Some, None}
-use Rattle.rx_seq.specs.declared.kinds.Kind.{Kind}
-use Rattle.rx_seq.specs.declared.kinds.Kind.TheVariants.{Cell, Queue, Registers, List as Ordered}
 use Rattle.rx_seq.specs.declared.kinds.Part.{Part}
+use Rattle.rx_seq.specs.Table.{attempt_steps}
 use Rattle.rx_seq.specs.History.{part_at}
 use Rattle.rx_set.specs.declared.policies.Policy.{Policy}
 use Rattle.rx_set.specs.declared.policies.Policy.TheVariants.{Rm, Dm, Edf}
@@ -112,16 +111,9 @@ demanded rows job number None = None
 abbrev pub item_at : System → Job → ℕ → Option Item
 item_at system job place = demanded system.demands job (place + 1) (slice_get (task_of system job).items place)
 
--- the ticks of one attempt: 2 on a cell, and twice the capacity and 6 on any other object
-abbrev pub attempt_by : Kind → ℕ → ℕ
-attempt_by Cell cap = 2
-attempt_by Queue cap = 2 * cap + 6
-attempt_by Ordered cap = 2 * cap + 6
-attempt_by Registers cap = 2 * cap + 6
-
--- the ticks of one attempt on an object, by its number
+-- the ticks of one attempt on an object, by its number: one for each step
 abbrev pub attempt_cost : System → ℕ → ℕ
-attempt_cost system object = attempt_by (part_at (parts_of system) object).kind (part_at (parts_of system) object).cap
+attempt_cost system object = attempt_steps (part_at (parts_of system) object)
 
 -- the stated cost of an item: the ticks of work, or of one attempt
 abbrev pub item_cost : System → Item → ℕ

@@ -70,11 +70,11 @@ no_demand = record { task = 0; job = 0; item = 0; ticks = 0 }
 abbrev pub NamesOnce : List Demand → Type 0
 NamesOnce demands = (a b : ℕ) → a < b → b < length demands → ¬ NameOneItem (get_or demands a no_demand) (get_or demands b no_demand)
 
--- 1 to 32 tasks, at most 16 objects and 1,000 demand rows, each in its limits; names of tasks differ, and so do those
+-- 1 to 64 tasks, at most 16 objects and 1,000 demand rows, each in its limits; names of tasks differ, and so do those
 -- of objects; operations are calls that fit objects that are there; a demand row names a work item, and none is named
 -- twice
 pub record IsValid (system : System) : Type 0 where
-  pub some_tasks : (1 ≤ length system.tasks) × (length system.tasks ≤ 32)
+  pub some_tasks : (1 ≤ length system.tasks) × (length system.tasks ≤ 64)
   pub few_objects : length system.objects ≤ 16
   pub few_demands : length system.demands ≤ 1000
   pub tasks : (task : ℕ) → task < length system.tasks → IsTaskRow system (task_at system task)

@@ -3,6 +3,7 @@
 #![tactic(auto)]
 
 mod demands;
+mod exposures;
 mod generator;
 mod items;
 mod jobs;
