@@ -1,17 +1,17 @@
 -- What the test looks at in the tasks of a valid system is in its limits.
-use Rattle.std.proofs.Common.{ℕ, zero, suc, ◌≡◌, ◌≤◌, ◌<◌, ◌*◌, List, length, get_or, map, Option, Some, None, refl, sym, ◌∙◌, ap, arith, subst}
-use Rattle.std.specs.Prelude.{slice_get}
-use Rattle.std.proofs.lemmas.Bool.Decides.{nat_tests}
+use Rattle.std.proofs.Common.{ℕ, ◌≡◌, ◌≤◌, ◌<◌, ◌*◌, nat_lt, List, length, get_or, map, sym, ◌∙◌, ap, arith, subst}
 use Rattle.std.proofs.lemmas.List.{get_or-map, length-map}
 use Rattle.std.proofs.lemmas.List.Sums.{sum_by-le, get_or-le-sum_by}
 use Rattle.std.proofs.lemmas.Option.{slice_get-get_or}
 use Rattle.rx_set.specs.declared.items.Item.{Item}
 use Rattle.rx_set.specs.declared.items.Item.TheVariants.{Work, Op}
 use Rattle.rx_set.specs.declared.tasks.Task.{Task}
-use Rattle.rx_set.specs.System.{System, TaskRow, no_task, task_at, numbers, item_cost, cost, larger, largest, retry_of, retry_of_task, retry_cost}
+use Rattle.rx_set.specs.System.{System, TaskRow, no_task, task_at, numbers, item_cost, cost}
+use Rattle.rx_set.specs.Charges.{charge_edf}
 use Rattle.rx_set.specs.Valid.{IsValid, IsItem}
 use Rattle.rx_set.specs.View.{row_of}
 use Rattle.rx_set.proofs.Counts.{length-numbers, get_or-numbers}
+use Rattle.rx_set.proofs.Exposed.{charge_few}
 use Rattle.rx_set.proofs.Readings.{attempt_bound}
 use Rattle.rx_edf.specs.ChargedTasks.{IsChargedTask, AreChargedTasks, charged_task_of, charged_tasks_of, no_charged_task, charged_task_at}
 
@@ -33,33 +33,16 @@ cost_bound system task valid known =
     let few : cost system task ≤ length items * 1000000 = sum_by-le (item_cost system) 1000000 items (λ place d inside. (item_bound system (get_or items place d) valid (item_in system task place d valid known inside)).1) in
     (omega (arith, first, get_or-le-sum_by (item_cost system) items 0 (Work 0) some), omega (arith, few, row.some_items.1))
 
--- of the retry cost
-larger_few : (a b c : ℕ) → a ≤ c → b ≤ c → larger a b ≤ c
-larger_few a b c h i = grind (arith, nat_tests)
-
-largest_few : (f : ℕ → ℕ) (n c : ℕ) → ((k : ℕ) → k < n → f k ≤ c) → largest f n ≤ c
-largest_few f zero c few = omega arith
-largest_few f (suc n) c few = larger_few (largest f n) (f n) c (largest_few f n c (λ k h. few k (omega (arith, h)))) (few n (omega arith))
-
-retry_bound : (system : System) → IsValid system → retry_cost system ≤ 134
-retry_bound system valid =
-    largest_few (λ task. retry_of_task system (task_at system task)) (length system.tasks) 134
-    (λ task known.
-    let items : List Item = (task_at system task).items in
-    largest_few (λ place. retry_of system (slice_get items place)) (length items) 134
-    (λ place inside. by_item task known place (slice_get items place) refl))
-  where
-    by_item : (task : ℕ) → task < length system.tasks → (place : ℕ) (o : Option Item) → slice_get (task_at system task).items place ≡ o → retry_of system o ≤ 134
-    by_item task known place None e = omega arith
-    by_item task known place (Some (Work ticks)) e = omega arith
-    by_item task known place (Some (Op object call)) e = (attempt_bound system object valid ((valid.tasks task known).items place (Op object call) e).0).1
+-- of the charge
+charge_bound : (system : System) (task : ℕ) → IsValid system → charge_edf system task ≤ 134
+charge_bound system task valid = charge_few system (λ other. nat_lt (task_at system task).deadline (task_at system other).deadline) valid
 
 -- of a task
 pub charged_task_valid : (system : System) (task : ℕ) → IsValid system → task < length system.tasks → IsChargedTask (charged_task_of system task)
 charged_task_valid system task valid known =
     let row = valid.tasks task known in
     let work = cost_bound system task valid known in
-    record { period = row.period; deadline = row.deadline; cost = (omega (arith, work.0), omega (arith, work.1, retry_bound system valid)) }
+    record { period = row.period; deadline = row.deadline; cost = (omega (arith, work.0), omega (arith, work.1, charge_bound system task valid)) }
 
 -- of all tasks
 pub length-charged_tasks : (system : System) → length (charged_tasks_of system) ≡ length system.tasks

@@ -1,7 +1,6 @@
-pub mod Totals
-pub mod Multiples
-pub mod Needs
-pub mod Leaves
-pub mod Steps
-pub mod Costs
-pub mod Answered
+mod Totals
+mod Multiples
+mod Needs
+mod Steps
+mod Costs
+mod Answered

@@ -1,12 +1,14 @@
 -- What the test looks at in each task, and the sums over all tasks that it is made of.
 use Rattle.std.specs.Prelude.{ℕ, zero, suc, ◌+◌, ◌-◌, ◌*◌, ◌/◌, ◌%◌, ◌==◌, ◌≤◌, ◌<◌, List, length, get_or, map, Option, Some, None}
-use Rattle.rx_set.specs.System.{System, task_at, numbers, cost, retry_cost}
+use Rattle.rx_set.specs.System.{System, task_at, numbers, cost}
+use Rattle.rx_set.specs.Charges.{charge_edf}
 use Rattle.rx_set.specs.Admission.{total, first_to, due_jobs}
 use Rattle.rx_edf.specs.declared.charged_tasks.ChargedTask.{ChargedTask}
 
--- the period and the deadline of a task, and what each of its jobs is charged with: its stated cost and one retry
+-- the period and the deadline of a task, and what each of its jobs is charged with: its stated cost, and the attempt that its
+-- release can cost a job of a longer deadline
 abbrev pub charged_task_of : System → ℕ → ChargedTask
-charged_task_of system task = record { period = (task_at system task).period; deadline = (task_at system task).deadline; cost = cost system task + retry_cost system }
+charged_task_of system task = record { period = (task_at system task).period; deadline = (task_at system task).deadline; cost = cost system task + charge_edf system task }
 
 -- the same of all tasks, in file order
 abbrev pub charged_tasks_of : System → List ChargedTask
@@ -31,7 +33,7 @@ pub record IsChargedTask (task : ChargedTask) : Type 0 where
 
 pub record AreChargedTasks (charged : List ChargedTask) : Type 0 where
   pub some : 1 ≤ length charged
-  pub few : length charged ≤ 32
+  pub few : length charged ≤ 64
   pub each : (place : ℕ) → place < length charged → IsChargedTask (charged_task_at charged place)
 
 -- a number that is there, and else 0

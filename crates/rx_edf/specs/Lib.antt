@@ -1,4 +1,3 @@
 pub mod ChargedTasks
-pub mod Trees
 pub mod Verdicts
 pub mod Rows

@@ -1,13 +1,13 @@
 // What the test looks at in each task.
 ghost use Rattle.std.specs.Prelude.{◌≡◌, ◌<◌, length};
-ghost use Rattle.rx_set.specs.System.{retry_cost};
+ghost use Rattle.rx_set.specs.declared.policies.Policy.TheVariants.{Edf};
 ghost use Rattle.rx_edf.specs.ChargedTasks.{AreChargedTasks, IsChargedTask, charged_task_of as charged_task_in, charged_tasks_of as charged_tasks_in};
 
 use arrayvec::ArrayVec;
 use rx_set::TaskSet;
 
-/// The period and the deadline of a task, and what each of its jobs is charged with: its stated cost and one retry. All
-/// are in ticks.
+/// The period and the deadline of a task, and what each of its jobs is charged with: its stated cost, and what its release can
+/// cost the tasks of longer deadlines. All are in ticks.
 #[derive(Clone, Copy, Debug, Default, PartialEq, Eq)]
 pub struct ChargedTask {
     pub period: u64,
@@ -15,10 +15,10 @@ pub struct ChargedTask {
     pub cost: u64,
 }
 
-/// What the test looks at in a task, where the retry cost of the set is known.
-fn charged_task_of(set: &TaskSet, task: usize, retry: u64) -> ChargedTask
+/// What the test looks at in a task.
+fn charged_task_of(set: &TaskSet, task: usize) -> ChargedTask
+    requires policy { set.now.policy ≡ Edf }
     requires known { task < length set.now.tasks }
-    requires retry { retry ≡ retry_cost set.now }
     ensures value { result ≡ charged_task_in set.now task }
     ensures valid { IsChargedTask result }
 {
@@ -26,19 +26,19 @@ fn charged_task_of(set: &TaskSet, task: usize, retry: u64) -> ChargedTask
     ChargedTask {
         period: row.period,
         deadline: row.deadline,
-        cost: set.cost(task as u32) + retry,
+        cost: set.cost(task as u32) + set.charge_edf(task as u32),
     }
 }
 
 /// What the test looks at in each task, in file order.
-pub fn charged_tasks_of(set: &TaskSet) -> ArrayVec<ChargedTask, 32>
+pub fn charged_tasks_of(set: &TaskSet) -> ArrayVec<ChargedTask, 64>
+    requires { set.now.policy ≡ Edf }
     ensures value { result.items ≡ charged_tasks_in set.now }
     ensures valid { AreChargedTasks result.items }
 {
-    let retry = set.retry_cost();
     let mut charged = ArrayVec::new();
     for task in 0..set.tasks().len() {
-        charged.push(charged_task_of(set, task, retry));
+        charged.push(charged_task_of(set, task));
     }
     charged
 }

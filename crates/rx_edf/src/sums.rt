@@ -9,7 +9,7 @@ fn work_of_task(task: ChargedTask, cycle: u128) -> u128
     requires task { IsChargedTask task }
     requires cycle { cycle < 2 ^ 96 }
     ensures value { result ≡ work_in_task cycle task }
-    ensures bound { result ≤ 2 ^ 122 }
+    ensures bound { result < 2 ^ 122 }
 {
     u128::from(task.cost) * (cycle / u128::from(task.period))
 }
@@ -32,7 +32,7 @@ fn weighted_shortening_of_task(task: ChargedTask, cycle: u128) -> u128
     requires task { IsChargedTask task }
     requires cycle { cycle < 2 ^ 96 }
     ensures value { result ≡ weighted_shortening_in_task cycle task }
-    ensures bound { result ≤ 2 ^ 122 }
+    ensures bound { result < 2 ^ 122 }
 {
     let jobs = cycle / u128::from(task.period);
     u128::from(task.period - task.deadline) * jobs * u128::from(task.cost)
@@ -80,7 +80,7 @@ fn need_of_task(task: ChargedTask, t: u128) -> u128
     requires task { IsChargedTask task }
     requires time { t < 2 ^ 96 }
     ensures value { result ≡ need_in_task t task }
-    ensures bound { result ≤ 2 ^ 122 }
+    ensures bound { result < 2 ^ 122 }
 {
     points_of_task(task, t) * u128::from(task.cost)
 }

@@ -1,5 +1,6 @@
 // Sets whose answers were worked out apart.
-ghost use Rattle.rx_set.specs.declared.items.Item.TheVariants.{Work};
+ghost use Rattle.rx_set.specs.declared.items.Item.TheVariants.{Work, Op};
+ghost use Rattle.rx_seq.specs.declared.calls.Call.TheVariants.{Add};
 ghost use Rattle.rx_set.specs.declared.policies.Policy.TheVariants.{Edf as edf};
 ghost use Rattle.rx_set.specs.View.{row_of};
 ghost use Rattle.std.specs.Prelude.{◌≡◌, ◌≤◌, [], ◌∷◌, IfOk};
@@ -53,10 +54,27 @@ fn two(alloc: Global, a: Line, b: Line) -> Result<TaskSet, Fail>
     Ok(TaskSet::build(Policy::Edf, Vec::new(alloc), tasks, Vec::new(alloc)))
 }
 
-/// A task that adds to a cell, with a deadline that may be short, and one that works.
-fn one_adds(alloc: Global, period: u64, deadline: u64, b: Line) -> Result<TaskSet, Fail>
+/// A task that adds to the first object.
+fn adder(alloc: Global, name: Name, period: u64, deadline: u64) -> Result<Task, Fail>
+    ensures { IfOk result (λ task. row_of task ≡ record { name = name.bytes; period = period; deadline = deadline; offset = 0; items = Op 0 (Add 1) ∷ [] }) }
+{
+    let adding = Item::Op {
+        object: 0,
+        call: Call::Add { v: 1 },
+    };
+    Ok(Task {
+        name,
+        period,
+        deadline,
+        offset: 0,
+        body: Body::of(vec![in alloc; adding]?),
+    })
+}
+
+/// Two tasks that add to one cell, the first with a deadline that may be short.
+fn both_add(alloc: Global, period: u64, deadline: u64, other: u64) -> Result<TaskSet, Fail>
     requires a { (1 ≤ deadline) × (deadline ≤ period) × (period ≤ 1000000) }
-    requires b { (1 ≤ b.deadline) × (b.deadline ≤ b.period) × (b.period ≤ 1000000) × (1 ≤ b.ticks) × (b.ticks ≤ 1000000) }
+    requires b { (1 ≤ other) × (other ≤ 1000000) }
     ensures { IfOk result (λ set. set.policy ≡ edf) }
 {
     let cell = Object {
@@ -66,18 +84,8 @@ fn one_adds(alloc: Global, period: u64, deadline: u64, b: Line) -> Result<TaskSe
             cap: 1,
         },
     };
-    let adding = Item::Op {
-        object: 0,
-        call: Call::Add { v: 1 },
-    };
-    let first = Task {
-        name: Name::from("a")?,
-        period,
-        deadline,
-        offset: 0,
-        body: Body::of(vec![in alloc; adding]?),
-    };
-    let second = worker(alloc, Name::from("b")?, b)?;
+    let first = adder(alloc, Name::from("a")?, period, deadline)?;
+    let second = adder(alloc, Name::from("b")?, other, other)?;
     let objects = vec![in alloc; cell]?;
     let tasks = vec![in alloc; first, second]?;
     Ok(TaskSet::build(Policy::Edf, objects, tasks, Vec::new(alloc)))
@@ -124,18 +132,20 @@ fn tasks_that_work(rt: HostRuntime) -> Result<(), Fail> {
 }
 
 #[test]
-fn a_task_that_adds(rt: HostRuntime) -> Result<(), Fail> {
-    let over = one_adds(rt.alloc(), 4, 4, row(1000000, 1000000, 1))?;
+fn tasks_that_add(rt: HostRuntime) -> Result<(), Fail> {
+    let equal = both_add(rt.alloc(), 4, 4, 4)?;
+    assert_eq!(rt; test(&equal), EdfVerdict::Yes);
+    let over = both_add(rt.alloc(), 4, 4, 1000000)?;
     assert_eq!(rt;
         test(&over),
         EdfVerdict::No {
             t: 1_000_000,
-            need: 1_000_003
+            need: 1_000_002
         }
     );
-    let roomy = one_adds(rt.alloc(), 20, 6, row(20, 20, 4))?;
+    let roomy = both_add(rt.alloc(), 20, 6, 20)?;
     assert_eq!(rt; test(&roomy), EdfVerdict::Yes);
-    let short = one_adds(rt.alloc(), 20, 3, row(20, 20, 4))?;
+    let short = both_add(rt.alloc(), 20, 3, 20)?;
     assert_eq!(rt; test(&short), EdfVerdict::No { t: 3, need: 4 });
     Ok(())
 }

@@ -13,8 +13,8 @@ use crate::sums::{need_at, points_up_to, weighted_shortening_of, work_of};
 use crate::walks::first_failure;
 use rx_set::TaskSet;
 
-/// What the test answers. The need of t ticks is what the field calls the demand bound function of t, here with a retry
-/// for each job.
+/// What the test answers. The need of t ticks is what the field calls the demand bound function of t, here with the
+/// attempt that each job can make another one repeat.
 #[derive(Clone, Copy, Debug, PartialEq, Eq)]
 pub enum EdfVerdict {
     /// What is released and due in t ticks fits into them, for each t.
@@ -82,8 +82,13 @@ fn verdict_within(charged: &[ChargedTask], cycle: u128) -> EdfVerdict
 }
 
 /// The test for earliest deadlines first: whether the jobs that are released and due in t ticks, each charged with its
-/// stated cost and one retry, fit into them, for each t from 1 on. The field calls this the processor demand criterion. The
-/// set's policy is `Edf`.
+/// stated cost and with what its release can cost the others, fit into them, for each t from 1 on. The field calls this the
+/// processor demand criterion. The set's policy is `Edf`.
+///
+/// A release can preempt jobs of longer relative deadlines alone, and make one attempt of one of them repeat. So it is charged
+/// with the longest attempt among their operations on objects that a task of a shorter deadline than theirs may change, and
+/// with nothing where there is none: where all deadlines are equal, where its deadline is the longest, and where the others
+/// only read, or share nothing with a task that writes.
 ///
 /// The least common multiple L of the periods is `Wide` from 2^96 on. Where the jobs of L ticks are charged with more than
 /// L, the answer is `No` at L. Where they are not and each deadline is its period, it is `Yes`. Else it is enough to look at
@@ -93,7 +98,7 @@ fn verdict_within(charged: &[ChargedTask], cycle: u128) -> EdfVerdict
 /// Anderson, Ramamurthy and Jeffay, 1997).
 ///
 /// It takes no memory. Its cost grows with the number of items of all tasks, with the number of tasks, and with the number
-/// of the times that are looked at, each in about 50 instructions.
+/// of the times that are looked at, each in about 57 instructions.
 pub fn test(set: &TaskSet) -> EdfVerdict
     requires { set.now.policy ≡ Edf }
     ensures value { result ≡ verdict_of set.now }

@@ -1,26 +1,24 @@
 // A walk over the times at which jobs are due, in rising order.
 ghost use Rattle.std.specs.Prelude.{◌≡◌, ◌≤◌, ◌<◌, ◌+◌, ◌-◌, ◌*◌, ◌^◌, ℕ, length, nat_lt};
 ghost use Rattle.rx_set.specs.Admission.{first_to};
+ghost use Rattle.rx_tree.specs.Trees.{key_at};
 ghost use Rattle.rx_edf.specs.ChargedTasks.{AreChargedTasks, charged_task_at, need_in};
-ghost use Rattle.rx_edf.specs.Trees.{IsTree, key_at};
 
 use crate::charged_tasks::ChargedTask;
-use crate::trees::{Tree, put_key};
+use rx_tree::{LEAVES, Tree};
 
-/// A tree with the first time of each task: a key is 32 times a time, and the number of the task.
+/// How many keys a tick has, one for each leaf: a key is this many times a time, and the number of a task.
+const KEYS_A_TICK: u64 = LEAVES as u64;
+
+/// A tree with the first time of each task.
 fn start(charged: &[ChargedTask]) -> Tree
     requires { AreChargedTasks charged.now }
-    ensures tree { IsTree result }
-    ensures keys { (place : ℕ) → place < length charged.now → key_at result (32 + place) ≡ 32 * (charged_task_at charged.now place).deadline + place }
-    ensures rest { (place : ℕ) → length charged.now ≤ place → place < 32 → key_at result (32 + place) ≡ 2 ^ 64 - 1 }
+    ensures keys { (place : ℕ) → place < length charged.now → key_at result place ≡ LEAVES * (charged_task_at charged.now place).deadline + place }
+    ensures rest { (place : ℕ) → length charged.now ≤ place → place < LEAVES → key_at result place ≡ 2 ^ 64 - 1 }
 {
-    let mut tree = [u64::MAX; 64];
+    let mut tree = Tree::new();
     for place in 0..charged.len() {
-        put_key(
-            &mut tree,
-            place,
-            32 * charged[place].deadline + place as u64,
-        );
+        tree.put(place, KEYS_A_TICK * charged[place].deadline + place as u64);
     }
     tree
 }
@@ -33,14 +31,16 @@ pub fn first_failure(charged: &[ChargedTask], last: u64) -> Option<u64>
 {
     let mut tree = start(charged);
     let mut need = 0;
-    while tree[1] / 32 <= last {
-        let key = tree[1];
-        let task = charged[(key % 32) as usize];
+    let mut key = tree.least();
+    while key / KEYS_A_TICK <= last {
+        let place = (key % KEYS_A_TICK) as usize;
+        let task = charged[place];
         need += task.cost;
-        if need > key / 32 {
-            return Some(key / 32);
+        if need > key / KEYS_A_TICK {
+            return Some(key / KEYS_A_TICK);
         }
-        put_key(&mut tree, (key % 32) as usize, key + 32 * task.period);
+        tree.put(place, key + KEYS_A_TICK * task.period);
+        key = tree.least();
     }
     None
 }

@@ -8,7 +8,7 @@ use Rattle.rx_edf.proofs.charged_tasks.charged_task_of.Goals as goal
 pub overflow_add-result : goal.overflow_add-result
 overflow_add-result c =
     let valid : IsChargedTask (charged_task_of c.args.set.now c.args.task) = charged_task_valid c.args.set.now c.args.task c.tasks.ensures.valid c.requires.known in
-    omega (arith, valid.cost.1, c.cost.ensures, c.requires.retry)
+    omega (arith, valid.cost.1, c.cost.ensures, c.charge_edf.ensures.value)
 
 pub returns-clause-valid : goal.returns-clause-valid
 returns-clause-valid c =
@@ -19,5 +19,5 @@ returns-clause-valid c =
     record {
       period = (omega (arith, valid.period.0, period), omega (arith, valid.period.1, period));
       deadline = (omega (arith, valid.deadline.0, deadline), omega (arith, valid.deadline.1, deadline, period));
-      cost = (omega (arith, valid.cost.0, c.cost.ensures, c.requires.retry), omega (arith, valid.cost.1, c.cost.ensures, c.requires.retry));
+      cost = (omega (arith, valid.cost.0, c.cost.ensures, c.charge_edf.ensures.value), omega (arith, valid.cost.1, c.cost.ensures, c.charge_edf.ensures.value));
     }
