@@ -2,8 +2,8 @@
 use Rattle.std.proofs.Common.{ℕ, zero, suc, ◌≤◌, ◌+◌, ◌-◌, ◌*◌, Bool, true, false, if◌then◌else◌, nat_le, nat_lt, length, arith}
 use Rattle.std.proofs.Math.Nat.{div-zero, div-mul-le_self}
 use Rattle.std.proofs.lemmas.Nat.{le-div, mul-le}
-use Rattle.rx_set.specs.System.{System, cost, rank, retry_cost, task_at}
-use Rattle.rx_set.specs.Admission.{ceiling, cost_to, need, spoils_to, total}
+use Rattle.rx_set.specs.System.{System, cost, rank, task_at}
+use Rattle.rx_set.specs.Admission.{ceiling, charge_of, charge_to, cost_to, need, total}
 use Rattle.rx_set.proofs.Totals.{total_up}
 
 pub ceiling_up : (t u period : ℕ) → t ≤ u → ceiling t period ≤ ceiling u period
@@ -22,10 +22,7 @@ need_up system place t u h =
     let costs = total_up (cost_to system place t) (cost_to system place u) n
     (λ k b. if_up (nat_le (rank system k) place) (ceiling t (period k) * cost system k) (ceiling u (period k) * cost system k)
     (mul-le (ceiling t (period k)) (cost system k) (ceiling u (period k)) (cost system k) (ceiling_up t u (period k) h) (omega arith))) in
-    let spoils = total_up (spoils_to system place t) (spoils_to system place u) n
-    (λ k b. if_up (nat_lt (rank system k) place) (ceiling (t - 1) (period k)) (ceiling (u - 1) (period k)) (ceiling_up (t - 1) (u - 1) (period k) (omega (arith, h)))) in
-    omega (
-      arith,
-      costs,
-      mul-le (retry_cost system) (total (spoils_to system place t) n) (retry_cost system) (total (spoils_to system place u) n) (omega arith) spoils,
-    )
+    let charges = total_up (charge_to system (charge_of system place) place t) (charge_to system (charge_of system place) place u) n
+    (λ k b. if_up (nat_lt (rank system k) place) (ceiling (t - 1) (period k) * charge_of system place k) (ceiling (u - 1) (period k) * charge_of system place k)
+    (mul-le (ceiling (t - 1) (period k)) (charge_of system place k) (ceiling (u - 1) (period k)) (charge_of system place k) (ceiling_up (t - 1) (u - 1) (period k) (omega (arith, h))) (omega arith))) in
+    omega (arith, costs, charges)

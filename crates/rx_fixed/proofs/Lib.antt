@@ -1,4 +1,4 @@
-pub mod Grows
-pub mod Rows
-pub mod Leasts
-pub mod Served
+mod Grows
+mod Rows
+mod Leasts
+mod Served

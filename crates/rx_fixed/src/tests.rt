@@ -48,6 +48,45 @@ fn on_a_cell(alloc: Global, deadline: u64) -> Result<TaskSet, Fail>
     ))
 }
 
+/// Two tasks that only look at a cell, and so spoil nobody.
+fn that_look(alloc: Global) -> Result<TaskSet, Fail>
+    ensures policy { IfOk result (λ set. set.policy ≢ Edf) }
+    ensures count { IfOk result (λ set. length set.tasks ≡ 2) }
+{
+    let cell = Object {
+        name: Name::from("c")?,
+        part: Part {
+            kind: Kind::Cell,
+            cap: 1,
+        },
+    };
+    let get = Item::Op {
+        object: 0,
+        call: Call::Get,
+    };
+    let work = Item::Work { n: 1 };
+    let short = Task {
+        name: Name::from("a")?,
+        period: 10,
+        deadline: 10,
+        offset: 0,
+        body: Body::of(vec![in alloc; get]?),
+    };
+    let long = Task {
+        name: Name::from("b")?,
+        period: 20,
+        deadline: 20,
+        offset: 0,
+        body: Body::of(vec![in alloc; work, get, work]?),
+    };
+    Ok(TaskSet::build(
+        Policy::Rm,
+        vec![in alloc; cell]?,
+        vec![in alloc; short, long]?,
+        Vec::new(alloc),
+    ))
+}
+
 /// Three tasks of periods 100, 200 and 400, each with one call on a queue of one number, whose attempts take 8 ticks.
 fn on_a_queue(alloc: Global) -> Result<TaskSet, Fail>
     ensures policy { IfOk result (λ set. set.policy ≢ Edf) }
@@ -148,7 +187,7 @@ fn of_too_much_work(alloc: Global) -> Result<TaskSet, Fail>
 fn has_answers(set: &TaskSet, times: &[Option<u64>], verdict: Verdict) -> bool
     requires policy { set.now.policy ≢ Edf }
     requires count { length times.now ≡ length set.now.tasks }
-    requires few { length times.now ≤ 32 }
+    requires few { length times.now ≤ 64 }
 {
     for place in 0..times.len() {
         if least(set, place as u32 + 1) != times[place] {
@@ -170,6 +209,8 @@ fn serves_each_rank(rt: HostRuntime) -> Result<(), Fail> {
     assert!(rt; has_answers(&tick_wanting, &[Some(2), None], second));
     let on_queue = on_a_queue(alloc)?;
     assert!(rt; has_answers(&on_queue, &[Some(8), Some(24), Some(40)], Verdict::Yes));
+    let looks = that_look(alloc)?;
+    assert!(rt; has_answers(&looks, &[Some(2), Some(6)], Verdict::Yes));
     let work = of_work(alloc)?;
     assert!(rt; has_answers(&work, &[Some(2), Some(5)], Verdict::Yes));
     let too_much = of_too_much_work(alloc)?;

@@ -20,10 +20,10 @@ pub enum Verdict {
 }
 
 /// The test for fixed priorities, which is response-time analysis: whether each task is served by some t (Joseph and
-/// Pandya, 1986; Audsley et al., 1993; with one retry for each release that can preempt, after Anderson, Ramamurthy and
-/// Jeffay, 1997). `No` tells the least rank that no t serves.
+/// Pandya, 1986; Audsley et al., 1993; with one lost attempt for each release that can preempt, after Anderson, Ramamurthy
+/// and Jeffay, 1997). `No` tells the least rank that no t serves.
 ///
-/// The policy is `Rm` or `Dm`. It takes no memory. Its cost is that of reading each item twice, and then for each rank
+/// The policy is `Rm` or `Dm`. It takes no memory. Its cost is that of reading each item, and then for each rank
 /// grows with the number of tasks times the number of values that the need takes up to the deadline.
 pub fn test(set: &TaskSet) -> Verdict
     requires policy { set.now.policy ≢ Edf }
@@ -34,10 +34,9 @@ pub fn test(set: &TaskSet) -> Verdict
     least_times_serve();
     ranks_are_places();
     let rows = rows_of(set);
-    let retry = set.retry_cost();
     for served in 0..rows.len() {
         let rank = served as u32 + 1;
-        if least_of(set, rows.as_slice(), retry, rank).is_none() {
+        if least_of(set, rows.as_slice(), rank).is_none() {
             return Verdict::No { rank };
         }
     }
