@@ -24,7 +24,7 @@ pub enum Event {
         job: Job,
         by: Job,
     },
-    /// An attempt won in this slot, which made the item's call: its first slot, the reply, and the object's new tag.
+    /// An attempt won in this slot, which made the item's call: its first slot, the reply, and the object's tag after it.
     Reply {
         at: u64,
         first: u64,

@@ -1,28 +1,24 @@
 -- What a tick of an operation does to the bank and to the machine of its task.
 use Rattle.std.proofs.Common.{ℕ, zero, suc, ◌≡◌, ◌≢◌, ◌≤◌, ◌<◌, ◌+◌, ◌^◌, ◌==◌, inl, inr, Bool, true, false, if◌then◌else◌, List, [], ◌∷◌, ◌++◌, length, Option, Some, None, refl, sym, ◌∙◌, ap, arith, subst}
-use Rattle.std.specs.Prelude.{slice_get, slice_set, get_or, IfSome}
+use Rattle.std.specs.Prelude.{slice_set, get_or, IfSome}
 use Rattle.std.proofs.lemmas.Bool.{lt-leb}
 use Rattle.std.proofs.Common.{leb}
 use Rattle.std.proofs.lemmas.Bool.Decides.{nat_tests}
 use Rattle.std.proofs.lemmas.List.{length-map, length-set, get_or-set_other, get_or_default}
 use Rattle.std.proofs.lemmas.Grind.{get_or-set_at}
-use Rattle.rx_seq.specs.declared.kinds.Kind.{Kind}
-use Rattle.rx_seq.specs.declared.kinds.Kind.TheVariants.{Cell, Queue, Registers, List as Ordered}
 use Rattle.rx_seq.specs.declared.kinds.Part.{Part}
 use Rattle.rx_seq.specs.declared.calls.Call.{Call}
 use Rattle.rx_seq.specs.declared.entries.Entry.{Entry}
 use Rattle.rx_seq.specs.declared.replies.Reply.{Reply}
-use Rattle.rx_seq.specs.Table.{effect, fits_part}
+use Rattle.rx_seq.specs.Table.{attempt_steps, effect, fits_part}
 use Rattle.rx_seq.specs.History.{part_at, replay, tag_of as count_loud, entry_after}
-use Rattle.rx_set.specs.declared.demands.Demand.{Demand}
 use Rattle.rx_set.specs.declared.items.Item.{Item}
 use Rattle.rx_set.specs.declared.items.Item.TheVariants.{Work, Op}
 use Rattle.rx_set.specs.declared.jobs.Job.{Job}
-use Rattle.rx_set.specs.System.{System, task_of, parts_of, part_of_row, item_at, demanded, attempt_cost, attempt_by}
-use Rattle.rx_set.specs.Valid.{IsItem, IsValid}
+use Rattle.rx_set.specs.System.{System, task_of, parts_of, part_of_row, item_at, attempt_cost}
+use Rattle.rx_set.specs.Valid.{IsItem}
 use Rattle.rx_shape.specs.Words.{tag_of as tag_in}
 use Rattle.rx_shape.specs.declared.homes.Home.{Home}
-use Rattle.rx_shape.specs.Forms.{form_of}
 use Rattle.rx_shape.specs.Layout.{Layout, home, root_of}
 use Rattle.rx_port.specs.declared.views.Counts.{Counts}
 use Rattle.rx_port.specs.declared.views.Core.{Core}
@@ -33,7 +29,7 @@ use Rattle.rx_port.specs.Plain.{Whole, IsSeatOf, HasRoom, HasRoomIn, view_at}
 use Rattle.rx_machine.specs.declared.steps.Step.{Step as Stepping}
 use Rattle.rx_machine.specs.declared.steps.Step.TheVariants as Step
 use Rattle.rx_machine.specs.declared.steps.Step.TheVariants.{Going}
-use Rattle.rx_machine.specs.Operations.{Operation, Outlook, Unsettled, Settled, Progress as Attempting, Follows, fresh, goes_on as on_with, begun, steps_as, attempt_steps, attempt_for}
+use Rattle.rx_machine.specs.Operations.{Operation, Outlook, Unsettled, Settled, Progress as Attempting, Follows, fresh, goes_on as on_with, begun, attempt_for}
 use Rattle.rx_machine.specs.Steps.{Loads, Spends, Reads, Writes, Idles, Decides}
 use Rattle.rx_machine.specs.OnBanks.{Stepped, TellsOf, history_by, bank_stands, bank_view}
 use Rattle.rx_ledger.specs.declared.events.Event.TheVariants as Event
@@ -41,45 +37,23 @@ use Rattle.rx_tick.specs.declared.objects.Objects.{Objects}
 use Rattle.rx_tick.specs.declared.states.State.{State}
 use Rattle.rx_tick.specs.declared.states.Made.{Made}
 use Rattle.rx_tick.specs.declared.states.Made.TheVariants.{On, Ended, Lost}
-use Rattle.rx_tick.specs.Schedule.{Slot, Busy, Decide, Progress, completed, lost, ticked, after, progress, history, won_after, wins_on, ends_work, decides, tick_in, tick_of, slot_of, slots, slot_at}
-use Rattle.rx_tick.specs.Events.{wins, wins_below, decision}
-use Rattle.rx_tick.specs.Laws.{who, finished_before, asked_by}
+use Rattle.rx_slots.specs.Schedule.{Slot, Busy, Decide, Progress, completed, lost, ticked, after, progress, history, won_after, wins_on, ends_work, decides, tick_in, tick_of, slot_of, slots, slot_at}
+use Rattle.rx_slots.specs.Events.{wins, wins_below, decision}
+use Rattle.rx_slots.specs.Laws.{who, finished_before, asked_by}
 use Rattle.rx_tick.specs.States.{job, progress_of, with_progress, after_slot, progress_made}
 use Rattle.rx_tick.specs.Banks.{IsBankOf, Touch, Nothing, Load, Store, Exchange, MayTouch, TouchesIn, TouchesAfter, KeepsMachines, machine_at, IsAtWork, IsInHand, IsTicking, HasTicked, CanStep, HasStepped}
 use Rattle.rx_tick.specs.Sums.{AreSums}
 use Rattle.rx_tick.proofs.Sums.{tried_few}
-use Rattle.rx_tick.proofs.Prefixes.{slots_count}
-use Rattle.rx_tick.proofs.Choices.{who_is}
-use Rattle.rx_tick.proofs.Steps.{same_self}
+use Rattle.rx_slots.proofs.Prefixes.{slots_count}
+use Rattle.rx_slots.proofs.Choices.{who_is}
+use Rattle.rx_slots.proofs.Steps.{same_self}
 use Rattle.rx_tick.proofs.Moves.{made_bound}
-use Rattle.rx_tick.proofs.Attempts.{IsBegun, held}
-use Rattle.rx_tick.proofs.Entries.{wins_tags, wins_before}
-use Rattle.rx_tick.proofs.Wins.{not_true, spoiled_more, calm_same, wins_few}
+use Rattle.rx_slots.proofs.Attempts.{IsBegun, held}
+use Rattle.rx_slots.proofs.Entries.{wins_tags, wins_before}
+use Rattle.rx_slots.proofs.Fitting.{op_fits}
+use Rattle.rx_slots.proofs.Wins.{not_true, spoiled_more, calm_same, wins_few}
 use Rattle.rx_tick.proofs.Effects.{Does, begin_does, read_does, write_does, decide_does, idle_does}
-use Rattle.rx_tick.proofs.Shares.{in_hand_share, cost_some}
-
--- an operation of a job fits an object that is there
-op_item : (rows : List Demand) (mine : Job) (number : ℕ) (item : Option Item) (object : ℕ) (call : Call) → demanded rows mine number item ≡ Some (Op object call) → item ≡ Some (Op object call)
-op_item rows mine number None object call e = cc
-op_item rows mine number (Some (Work ticks)) object call e = cc
-op_item rows mine number (Some (Op other its)) object call e = e
-
-pub record IsCall (system : System) (object : ℕ) (call : Call) : Type 0 where
-  pub exists : object < length system.objects
-  pub fits : fits_part (part_at (parts_of system) object) call ≡ true
-
-pub call_is : (system : System) (mine : Job) (place object : ℕ) (call : Call) → IsValid system → mine.task < length system.tasks → item_at system mine place ≡ Some (Op object call) → IsCall system object call
-call_is system mine place object call valid known e =
-    let stated = op_item system.demands mine (place + 1) (slice_get (task_of system mine).items place) object call e in
-    let item : IsItem system (Op object call) = (valid.tasks mine.task known).items place (Op object call) stated in
-    record { exists = item.0; fits = item.1 }
-
--- an attempt of a machine has as many steps as one of the schedule has slots
-steps_by : (kind : Kind) (cap : ℕ) → steps_as (form_of kind) cap ≡ attempt_by kind cap
-steps_by Cell cap = refl
-steps_by Queue cap = refl
-steps_by Ordered cap = refl
-steps_by Registers cap = refl
+use Rattle.rx_slots.proofs.Shares.{in_hand_share, cost_some}
 
 -- what the slot of a job is
 module _ (system : System) (now : ℕ) (mine : Job) (s : State) (objects : Objects) (is : IsTicking system now mine s objects) where
@@ -207,21 +181,21 @@ module _ (system : System) (now : ℕ) (mine : Job) (s : State) (objects : Objec
   none_some a o e f = cc
 
   module _ (object : ℕ) (call : Call) (item : item_at system mine s.complete ≡ Some (Op object call)) where
-    op_call : IsCall system object call
-    op_call = call_is system mine s.complete object call is.valid is.known.task item
+    op_call : IsItem system (Op object call)
+    op_call = op_fits system mine s.complete object call is.valid is.known.task item
 
     pub exists_here : object < length objects.bank.layout.parts
-    exists_here = omega (arith, ap (λ (ps : List Part). length ps) is.stands.parts, length-map system.objects part_of_row, op_call.exists)
+    exists_here = omega (arith, ap (λ (ps : List Part). length ps) is.stands.parts, length-map system.objects part_of_row, op_call.0)
 
     part_here : part_at objects.bank.layout.parts object ≡ part_at (parts_of system) object
     part_here = ap (λ (ps : List Part). part_at ps object) is.stands.parts
 
     pub fits_here : fits_part (part_at objects.bank.layout.parts object) call ≡ true
-    fits_here = ap (λ (p : Part). fits_part p call) part_here ∙ op_call.fits
+    fits_here = ap (λ (p : Part). fits_part p call) part_here ∙ op_call.1
 
     pub steps_here : (place : Home) → place ≡ home objects.bank.layout object → attempt_steps place.part ≡ attempt_cost system object
     steps_here place e =
-        ap (λ (h : Home). attempt_steps h.part) e ∙ ap attempt_steps part_here ∙ steps_by (part_at (parts_of system) object).kind (part_at (parts_of system) object).cap
+        ap (λ (h : Home). attempt_steps h.part) e ∙ ap attempt_steps part_here
 
     op_slot : (b : Bool) → (s.made + 1 == attempt_cost system object) ≡ b
         → slot_at system now ≡ tick_in system (slots system now) mine (progress_of s) (if b then Some (record { object = object; call = call }) else None)

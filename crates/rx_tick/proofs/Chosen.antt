@@ -14,10 +14,10 @@ use Rattle.rx_set.specs.Valid.{IsValid, IsJob}
 use Rattle.rx_set.proofs.Keys.{key_order, below_trans, below_swap}
 use Rattle.rx_set.proofs.Releases.{release_order}
 use Rattle.rx_tick.specs.declared.states.State.{State}
-use Rattle.rx_tick.specs.Schedule.{Slot, sooner, chosen, is_pending, is_finished, jobs_of, slots}
+use Rattle.rx_slots.specs.Schedule.{Slot, sooner, chosen, is_pending, is_finished, jobs_of, slots}
 use Rattle.rx_tick.specs.States.{job, state_at, IsState, AreStates, AreOffers, IsOffered, offer, best_of}
-use Rattle.rx_tick.proofs.Lists.{some_same, none_not}
-use Rattle.rx_tick.proofs.Prefixes.{slots_count}
+use Rattle.rx_slots.proofs.Lists.{some_same, none_not}
+use Rattle.rx_slots.proofs.Prefixes.{slots_count}
 use Rattle.rx_tick.proofs.Told.{finished_is, released_bound}
 
 -- a later job of a task never takes the place of an earlier one

@@ -18,7 +18,7 @@ use Rattle.rx_port.specs.declared.views.View.{View}
 use Rattle.rx_port.specs.Core.{own_of, one_load, one_store, one_exchange}
 use Rattle.rx_port.specs.Lawful.{Lawful}
 use Rattle.rx_port.specs.Plain.{Whole, Moves, view_at}
-use Rattle.rx_tick.specs.Schedule.{Slot, Decide, job_in}
+use Rattle.rx_slots.specs.Schedule.{Slot, Decide, job_in}
 use Rattle.rx_tick.specs.Banks.{Touch, Nothing, Load, Store, Exchange, WordsAfter, touched}
 
 -- what an event on a bank does, for the histories before it and after it

@@ -9,7 +9,7 @@ use Rattle.rx_set.specs.declared.jobs.Job.{Job}
 use Rattle.rx_set.specs.System.{System, key, is_below}
 use Rattle.rx_set.proofs.Keys.{below_trans, below_swap, jobs_same}
 use Rattle.rx_tick.specs.declared.states.State.{State}
-use Rattle.rx_tick.specs.Schedule.{sooner}
+use Rattle.rx_slots.specs.Schedule.{sooner}
 use Rattle.rx_tick.specs.States.{job, no_state, state_at, offer, with_offer, best_of}
 use Rattle.rx_tick.proofs.Moves.{best_set}
 

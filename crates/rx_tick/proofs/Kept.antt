@@ -1,9 +1,6 @@
 -- What is kept of the bank, from slot to slot.
-use Rattle.std.proofs.Common.{ℕ, suc, ◌≡◌, ◌≢◌, ◌≤◌, ◌<◌, ◌+◌, ◌^◌, List, ◌∷◌, length, slice_set, Option, Some, None, refl, sym, ◌∙◌, ap, arith, subst, add-one}
+use Rattle.std.proofs.Common.{ℕ, suc, ◌≡◌, ◌≤◌, ◌<◌, ◌+◌, ◌^◌, List, ◌∷◌, length, slice_set, Option, Some, None, refl, sym, ◌∙◌, ap, arith, subst, add-one}
 use Rattle.std.specs.Prelude.{option_map}
-use Rattle.std.proofs.Math.Decide.{dec_le}
-use Rattle.std.proofs.lemmas.List.{get_or-set_other}
-use Rattle.std.proofs.lemmas.Grind.{get_or-set_at}
 use Rattle.rx_seq.specs.declared.calls.Call.{Call}
 use Rattle.rx_set.specs.declared.jobs.Job.{Job}
 use Rattle.rx_set.specs.System.{System}
@@ -13,15 +10,16 @@ use Rattle.rx_port.specs.declared.views.View.{View}
 use Rattle.rx_port.specs.Lawful.{Lawful}
 use Rattle.rx_port.specs.Plain.{view_at}
 use Rattle.rx_tick.specs.declared.states.State.{State}
-use Rattle.rx_tick.specs.Schedule.{Slot, Progress, history, slots, slot_at}
-use Rattle.rx_tick.specs.States.{job, no_state, state_at, in_hand, progress_of, AreStates, IsState, best_of}
+use Rattle.rx_slots.specs.Schedule.{Slot, Progress, history, slots, slot_at}
+use Rattle.rx_tick.specs.States.{job, state_at, in_hand, progress_of, AreStates, IsState, best_of}
 use Rattle.rx_machine.specs.Operations.{Follows}
 use Rattle.rx_tick.specs.declared.objects.Objects.{Objects}
 use Rattle.rx_tick.specs.Banks.{IsBankOf, Nothing, touched, MayTouch, Touches, machine_at, IsAtWork, IsInHand, IsKept, IsTicking, KeepsMachines}
-use Rattle.rx_tick.proofs.Lists.{some_same}
+use Rattle.rx_slots.proofs.Lists.{some_same}
+use Rattle.rx_tick.proofs.Written.{at_written}
 use Rattle.rx_tick.proofs.Sums.{sums_more}
-use Rattle.rx_tick.proofs.Attempts.{IsBegun, held}
-use Rattle.rx_tick.proofs.Entries.{wins_before}
+use Rattle.rx_slots.proofs.Attempts.{IsBegun, held}
+use Rattle.rx_slots.proofs.Entries.{wins_before}
 use Rattle.rx_tick.proofs.Moves.{offered_here, known_here, state_here, started_here, owner_here, job_here, slots_here, slot_idle}
 
 -- a machine that is at work stays so while another task has a slot
@@ -74,24 +72,11 @@ module _ (system : System) (now : ℕ) (states : List State) (kept : AreStates s
     of = stands;
     sums = sums_more system (slots system now) (slot_at system now) touches.touch objects.bank.core.counts new.bank.core.counts touches.may touches.rise words.sums;
     machines = machines.count ∙ words.machines;
-    hands = λ task known. elim (dec_le task mine.task) [
-      | yes below ↦ elim (dec_le mine.task task) [
-        | yes above ↦
-            let here : task ≡ mine.task = omega arith in
-            subst (IsInHand system (slot_at system now ∷ slots system now) new task) (sym (get_or-set_at states mine.task task t no_state here (offered_here system now states kept mine best).task))
-            (subst (λ (x : ℕ). IsInHand system (slot_at system now ∷ slots system now) new x t) (sym here) hand)
-        | no before ↦ other_hand task known (λ e. absurd (omega arith))
-      ]
-      | no after ↦ other_hand task known (λ e. absurd (omega arith))
-    ];
+    hands = λ task. at_written (λ x s. x < length system.tasks → IsInHand system (slot_at system now ∷ slots system now) new x s) states mine.task t (offered_here system now states kept mine best).task (λ known. hand) task
+        (λ apart known. stays_in_hand system now objects new task (now + 1) (state_at states task) (kept.each task known) touches.layout
+        (touches.others task (λ other has e. apart (e ∙ ap (λ (j : Job). j.task) (some_same other mine (sym has ∙ owner_here system now states kept mine best)))))
+        (machines.others task apart) (words.hands task known));
   })
-    where
-      other_hand : (task : ℕ) → task < length system.tasks → task ≢ mine.task → IsInHand system (slot_at system now ∷ slots system now) new task (state_at (slice_set states mine.task t) task)
-      other_hand task known apart =
-          subst (IsInHand system (slot_at system now ∷ slots system now) new task) (sym (get_or-set_other states mine.task task t no_state apart))
-          (stays_in_hand system now objects new task (now + 1) (state_at states task) (kept.each task known) touches.layout
-          (touches.others task (λ other has e. apart (e ∙ ap (λ (j : Job). j.task) (some_same other mine (sym has ∙ owner_here system now states kept mine best)))))
-          (machines.others task apart) (words.hands task known))
 
 -- an idle slot
 module _ (system : System) (now : ℕ) (states : List State) (kept : AreStates system (slots system now) (now + 1) states) (best : best_of system (length system.tasks) states ≡ None)

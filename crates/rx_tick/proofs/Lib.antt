@@ -1,38 +1,10 @@
-pub mod Lists
-pub mod Told
-pub mod Chosen
-pub mod Moves
-pub mod Sums
-pub mod Wins
-pub mod Effects
-pub mod Banks
-pub mod Kept
-pub mod Firsts
-pub mod Prefixes
-pub mod SlotEvents
-pub mod Choices
-pub mod Steps
-pub mod Preemptions
-pub mod Shares
-pub mod Attempts
-pub mod Entries
-pub mod Joins
-pub mod Decisions
-pub mod Tallies
-pub mod Bodies
-pub mod JobSums
-pub mod StatedTicks
-pub mod Families
-pub mod WindowLaw
-pub mod Moments
-pub mod JobCounts
-pub mod FixedKeys
-pub mod Served
-pub mod Demanded
-pub mod Earliest
-pub mod Concrete
-pub mod Charged
-pub mod EventSums
-pub mod Bounded
-pub mod Times
-pub mod NoMisses
+mod Written
+mod Told
+mod Chosen
+mod Moves
+mod Sums
+mod Effects
+mod Banks
+mod Kept
+mod Firsts
+mod Joins

@@ -4,8 +4,7 @@ use Rattle.std.specs.Option.{ForSome}
 use Rattle.std.proofs.Math.Decide.{dec_le}
 use Rattle.std.proofs.lemmas.Bool.{lt-leb, le-leb}
 use Rattle.std.proofs.lemmas.Bool.Decides.{nat_tests}
-use Rattle.std.proofs.lemmas.List.{get_or-set_other, length-set}
-use Rattle.std.proofs.lemmas.Grind.{get_or-set_at}
+use Rattle.std.proofs.lemmas.List.{length-set}
 use Rattle.rx_set.specs.declared.jobs.Job.{Job}
 use Rattle.rx_set.specs.System.{System, task_at, task_of, item_at, due}
 use Rattle.rx_set.specs.Valid.{IsJob}
@@ -13,14 +12,15 @@ use Rattle.rx_ledger.specs.declared.events.Event.{Event}
 use Rattle.rx_ledger.specs.declared.events.Event.TheVariants.{Preempt}
 use Rattle.rx_set.specs.Operations.{Asked}
 use Rattle.rx_tick.specs.declared.states.State.{State}
-use Rattle.rx_tick.specs.Schedule.{Slot, Idle, Progress, after, sooner, job_in, same, progress, is_finished, decides, tick_in, slot_of, next_slot, slot_at, chosen, slots}
-use Rattle.rx_tick.specs.Events.{last_job, preempted, decision, finish, finished_in, events_of, misses, releases}
-use Rattle.rx_tick.specs.States.{job, no_state, state_at, progress_of, with_progress, after_slot, IsState, AreStates, IsBeforeDue, AreBeforeDue, AreBeforeRelease, IsOffered, offer, best_of}
-use Rattle.rx_tick.specs.Laws.{who}
-use Rattle.rx_tick.proofs.Lists.{some_same, none_not}
-use Rattle.rx_tick.proofs.Choices.{who_is}
-use Rattle.rx_tick.proofs.Steps.{after_rule, other_slot}
-use Rattle.rx_tick.proofs.Prefixes.{slots_count}
+use Rattle.rx_slots.specs.Schedule.{Slot, Idle, Progress, after, sooner, job_in, same, progress, is_finished, decides, tick_in, slot_of, next_slot, slot_at, chosen, slots}
+use Rattle.rx_slots.specs.Events.{last_job, preempted, decision, finish, finished_in, events_of, misses, releases}
+use Rattle.rx_tick.specs.States.{job, state_at, progress_of, with_progress, after_slot, IsState, AreStates, IsBeforeDue, AreBeforeDue, AreBeforeRelease, IsOffered, offer, best_of}
+use Rattle.rx_slots.specs.Laws.{who}
+use Rattle.rx_slots.proofs.Lists.{some_same, none_not}
+use Rattle.rx_slots.proofs.Choices.{who_is}
+use Rattle.rx_slots.proofs.Steps.{after_rule, other_slot}
+use Rattle.rx_slots.proofs.Prefixes.{slots_count}
+use Rattle.rx_tick.proofs.Written.{at_written}
 use Rattle.rx_tick.proofs.Told.{released_bound}
 use Rattle.rx_tick.proofs.Chosen.{chosen_is, best_offered}
 
@@ -120,55 +120,25 @@ pub best_set : (system : System) (states : List State) (task : ℕ) (new : State
 best_set system states task new known tests finished zero = refl
 best_set system states task new known tests finished (suc tasks) =
     ap (λ (best : Option Job). offer system best tasks (state_at (slice_set states task new) tasks)) (best_set system states task new known tests finished tasks)
-    ∙ elim (dec_le tasks task) [
-      | yes below ↦ elim (dec_le task tasks) [
-        | yes above ↦
-            let here : tasks ≡ task = omega arith in
-            ap (offer system (best_of system tasks states) tasks) (get_or-set_at states task tasks new no_state here known)
-            ∙ offer_same system (best_of system tasks states) tasks (state_at states tasks) new
-            (tests ∙ ap (λ (t : ℕ). nat_lt (state_at states t).finished (state_at states t).released) (sym here)) (finished ∙ ap (λ (t : ℕ). (state_at states t).finished) (sym here))
-        | no before ↦ ap (offer system (best_of system tasks states) tasks) (get_or-set_other states task tasks new no_state (λ e. absurd (omega arith)))
-      ]
-      | no after ↦ ap (offer system (best_of system tasks states) tasks) (get_or-set_other states task tasks new no_state (λ e. absurd (omega arith)))
-    ]
+    ∙ at_written (λ t s. offer system (best_of system tasks states) t s ≡ offer system (best_of system tasks states) t (state_at states t)) states task new known
+    (offer_same system (best_of system tasks states) task (state_at states task) new tests finished) tasks (λ apart. refl)
 
 -- it leaves when jobs are due, if no more of them are unfinished
 pub due_set : (system : System) (time watch : ℕ) (states : List State) (task : ℕ) (new : State) → task < length states → new.released ≡ (state_at states task).released
     → (state_at states task).finished ≤ new.finished → AreBeforeDue system time watch states → AreBeforeDue system time watch (slice_set states task new)
 due_set system time watch states task new known released finished watched = record {
-  each = λ other inside. elim (dec_le other task) [
-    | yes below ↦ elim (dec_le task other) [
-      | yes above ↦
-          let here : other ≡ task = omega arith in
-          subst (IsBeforeDue system time watch other) (sym (get_or-set_at states task other new no_state here known)) (same_due other here inside)
-      | no before ↦ subst (IsBeforeDue system time watch other) (sym (get_or-set_other states task other new no_state (λ e. absurd (omega arith)))) (watched.each other inside)
-    ]
-    | no after ↦ subst (IsBeforeDue system time watch other) (sym (get_or-set_other states task other new no_state (λ e. absurd (omega arith)))) (watched.each other inside)
-  ];
+  each = λ other. at_written (λ t s. t < length system.tasks → IsBeforeDue system time watch t s) states task new known same_due other (λ apart. watched.each other);
 }
   where
-    same_due : (other : ℕ) → other ≡ task → other < length system.tasks → IsBeforeDue system time watch other new
-    same_due other here inside =
-        let old = watched.each other inside in
-        let released_here : new.released ≡ (state_at states other).released = released ∙ ap (λ (t : ℕ). (state_at states t).released) (sym here) in
-        let finished_here : (state_at states other).finished ≤ new.finished = subst (λ (t : ℕ). (state_at states t).finished ≤ new.finished) (sym here) finished in
-        λ some later. subst (λ (n : ℕ). watch ≤ due system (job other n)) (sym released_here)
-        (old (omega arith) (subst (λ (n : ℕ). time ≤ due system (job other n)) released_here later))
+    same_due : task < length system.tasks → IsBeforeDue system time watch task new
+    same_due inside = λ some later. subst (λ (n : ℕ). watch ≤ due system (job task n)) (sym released)
+        (watched.each task inside (omega (arith, released, finished, some)) (subst (λ (n : ℕ). time ≤ due system (job task n)) released later))
 
 -- and when jobs are released, if that stays
 pub release_set : (system : System) (watch : ℕ) (states : List State) (task : ℕ) (new : State) → task < length states → new.next ≡ (state_at states task).next
     → AreBeforeRelease system watch states → AreBeforeRelease system watch (slice_set states task new)
 release_set system watch states task new known next watched = record {
-  each = λ other inside. elim (dec_le other task) [
-    | yes below ↦ elim (dec_le task other) [
-      | yes above ↦
-          let here : other ≡ task = omega arith in
-          subst (λ (s : State). watch ≤ s.next) (sym (get_or-set_at states task other new no_state here known))
-          (subst (λ (n : ℕ). watch ≤ n) (ap (λ (t : ℕ). (state_at states t).next) here ∙ sym next) (watched.each other inside))
-      | no before ↦ subst (λ (s : State). watch ≤ s.next) (sym (get_or-set_other states task other new no_state (λ e. absurd (omega arith)))) (watched.each other inside)
-    ]
-    | no after ↦ subst (λ (s : State). watch ≤ s.next) (sym (get_or-set_other states task other new no_state (λ e. absurd (omega arith)))) (watched.each other inside)
-  ];
+  each = λ other. at_written (λ t s. t < length system.tasks → watch ≤ s.next) states task new known (λ inside. omega (arith, next, watched.each task inside)) other (λ apart. watched.each other);
 }
 
 -- what a tick does to the counts
@@ -299,22 +269,9 @@ module _ (system : System) (now : ℕ) (states : List State) (kept : AreStates s
   states_next = record {
     valid = kept.valid;
     count = length-set states mine.task after_here ∙ kept.count;
-    each = λ task known. elim (dec_le task mine.task) [
-      | yes below ↦ elim (dec_le mine.task task) [
-        | yes above ↦
-            let here : task ≡ mine.task = omega arith in
-            subst (IsState system (slot_at system now ∷ slots system now) (now + 1) task) (sym (get_or-set_at states mine.task task after_here no_state here offered_here.task))
-            (subst (λ (t : ℕ). IsState system (slot_at system now ∷ slots system now) (now + 1) t after_here) (sym here) state_next)
-        | no before ↦ other_state task known (λ e. absurd (omega arith))
-      ]
-      | no after ↦ other_state task known (λ e. absurd (omega arith))
-    ];
+    each = λ task. at_written (λ t s. t < length system.tasks → IsState system (slot_at system now ∷ slots system now) (now + 1) t s) states mine.task after_here offered_here.task (λ known. state_next) task
+        (λ apart known. state_stays system (slots system now) (now + 1) task (slot_at system now) mine (state_at states task) owner_here (kept.each task known) (λ e. apart (sym e)));
   }
-    where
-      other_state : (task : ℕ) → task < length system.tasks → mine.task ≢ task → IsState system (slot_at system now ∷ slots system now) (now + 1) task (state_at (slice_set states mine.task after_here) task)
-      other_state task known apart =
-          subst (IsState system (slot_at system now ∷ slots system now) (now + 1) task) (sym (get_or-set_other states mine.task task after_here no_state (λ e. apart (sym e))))
-          (state_stays system (slots system now) (now + 1) task (slot_at system now) mine (state_at states task) owner_here (kept.each task known) apart)
 
   pub states_after : AreStates system (slots system (now + 1)) (now + 1) (slice_set states mine.task (after_slot system now mine (slot_at system now) (state_at states mine.task)))
   unfolding after_here

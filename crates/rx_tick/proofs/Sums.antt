@@ -5,9 +5,10 @@ use Rattle.rx_set.specs.declared.items.Item.{Item}
 use Rattle.rx_set.specs.declared.items.Item.TheVariants.{Work, Op}
 use Rattle.rx_set.specs.System.{System, item_at}
 use Rattle.rx_port.specs.declared.views.Counts.{Counts}
-use Rattle.rx_tick.specs.Schedule.{Slot, Idle, Busy, Decide, progress}
+use Rattle.rx_slots.specs.Schedule.{Slot, Idle, Busy, Decide, progress}
 use Rattle.rx_tick.specs.Banks.{Touch, Nothing, Load, Store, Exchange, touched, TouchesIn, MayTouch}
-use Rattle.rx_tick.specs.Sums.{tried, opened, tried_in, tried_slots, opened_slots, decided_slots, AreSumsIn, AreSums}
+use Rattle.rx_tick.specs.Sums.{AreSumsIn, AreSums}
+use Rattle.rx_slots.specs.AttemptSlots.{tried, opened, tried_in, tried_slots, opened_slots, decided_slots}
 
 -- one more slot, in which nothing, one load, one store or one exchange is made
 none_more : (decided opens tries : ℕ) (counts : Counts) → AreSumsIn decided opens tries counts → AreSumsIn (decided + 0) (opens + 0) (tries + 0) (touched Nothing counts)

@@ -2,7 +2,6 @@
 use Rattle.std.proofs.Common.{ℕ, zero, suc, ◌≡◌, ◌≢◌, ◌≤◌, ◌<◌, ◌+◌, ◌-◌, ◌*◌, ◌==◌, ◌&&◌, nat_le, not, Bool, true, false, List, [], ◌∷◌, ◌++◌, length, map, filter, refl, sym, ◌∙◌, ap, arith, subst, add-one, append_assoc, append-nil}
 use Rattle.std.proofs.Common.{get_or, slice_set, min}
 use Rattle.std.proofs.lemmas.List.{get_or-set_other, length-set, get_or-map, length-map}
-use Rattle.std.proofs.lemmas.Grind.{get_or-set_at}
 use Rattle.std.proofs.Math.Decide.{dec_le}
 use Rattle.rx_set.specs.declared.tasks.Task.{Task}
 use Rattle.rx_set.specs.View.{row_of}
@@ -14,11 +13,12 @@ use Rattle.rx_set.specs.Valid.{IsValid}
 use Rattle.rx_set.proofs.Releases.{release_order, release_apart, number_bound}
 use Rattle.rx_ledger.specs.declared.events.Event.TheVariants.{Miss, Release}
 use Rattle.rx_tick.specs.declared.states.State.{State}
-use Rattle.rx_tick.specs.Schedule.{Slot, Progress, is_finished, jobs_of, slots}
-use Rattle.rx_tick.specs.Events.{is_missed, is_released_at, misses, releases}
+use Rattle.rx_slots.specs.Schedule.{Slot, Progress, is_finished, jobs_of, slots}
+use Rattle.rx_slots.specs.Events.{is_missed, is_released_at, misses, releases}
 use Rattle.rx_tick.specs.States.{job, IsState, IsBeforeDue, AreBeforeDue, AreBeforeRelease, AreStates, is_late_at, in_hand, no_state, state_at, misses_at, releases_at}
-use Rattle.rx_tick.proofs.Prefixes.{slots_count}
-use Rattle.rx_tick.proofs.Lists.{none_of, only_of, told_of, told_more}
+use Rattle.rx_slots.proofs.Prefixes.{slots_count}
+use Rattle.rx_tick.proofs.Written.{at_written}
+use Rattle.rx_slots.proofs.Lists.{none_of, only_of, told_of, told_more}
 
 one_more : (b period : ℕ) → (b + 1) * period ≡ b * period + period
 one_more b period = grind arith
@@ -296,13 +296,7 @@ pub between_more : (system : System) (past : List Slot) (time tasks : ℕ) (stat
     → IsState system past (time + 1) tasks s → AreBetween system past time (tasks + 1) (slice_set states tasks s)
 between_more system past time tasks states s kept known next = record {
   count = length-set states tasks s ∙ kept.count;
-  done = λ task below. elim (dec_le tasks task) [
-    | yes at ↦
-        let same : task ≡ tasks = omega arith in
-        subst (IsState system past (time + 1) task) (sym (get_or-set_at states tasks task s no_state same (omega (arith, kept.count))))
-        (subst (λ (t : ℕ). IsState system past (time + 1) t s) (sym same) next)
-    | no before ↦ subst (IsState system past (time + 1) task) (sym (get_or-set_other states tasks task s no_state (λ e. absurd (omega arith)))) (kept.done task (omega arith))
-  ];
+  done = λ task below. at_written (IsState system past (time + 1)) states tasks s (omega (arith, kept.count, known)) next task (λ apart. kept.done task (omega (arith, below, apart)));
   rest = λ task above inside. subst (IsState system past time task) (sym (get_or-set_other states tasks task s no_state (λ e. absurd (omega arith)))) (kept.rest task (omega arith) inside);
 }
 
@@ -310,31 +304,14 @@ between_more system past time tasks states s kept known next = record {
 pub due_write : (system : System) (time watch sooner : ℕ) (states : List State) (task : ℕ) (new : State) → task < length states → AreBeforeDue system time watch states → sooner ≤ watch
     → IsBeforeDue system time sooner task new → AreBeforeDue system time sooner (slice_set states task new)
 due_write system time watch sooner states task new inside watched h here = record {
-  each = λ other known. elim (dec_le other task) [
-    | yes below ↦ elim (dec_le task other) [
-      | yes above ↦
-          let same : other ≡ task = omega arith in
-          subst (IsBeforeDue system time sooner other) (sym (get_or-set_at states task other new no_state same inside)) (subst (λ (t : ℕ). IsBeforeDue system time sooner t new) (sym same) here)
-      | no before ↦ other_due other known (λ e. absurd (omega arith))
-    ]
-    | no after ↦ other_due other known (λ e. absurd (omega arith))
-  ];
+  each = λ other. at_written (λ t s. t < length system.tasks → IsBeforeDue system time sooner t s) states task new inside (λ known. here) other
+      (λ apart known. due_sooner system time other watch sooner (state_at states other) (watched.each other known) h);
 }
-  where
-    other_due : (other : ℕ) → other < length system.tasks → other ≢ task → IsBeforeDue system time sooner other (state_at (slice_set states task new) other)
-    other_due other known apart =
-        subst (IsBeforeDue system time sooner other) (sym (get_or-set_other states task other new no_state apart))
-        (due_sooner system time other watch sooner (state_at states other) (watched.each other known) h)
 
 pub next_write : (states : List State) (tasks next : ℕ) (new : State) → tasks < length states → ((task : ℕ) → task < tasks → next ≤ (state_at states task).next)
     → (task : ℕ) → task < tasks + 1 → min next new.next ≤ (state_at (slice_set states tasks new) task).next
-next_write states tasks next new inside before task below = elim (dec_le tasks task) [
-  | yes at ↦
-      let same : task ≡ tasks = omega arith in
-      subst (λ (s : State). min next new.next ≤ s.next) (sym (get_or-set_at states tasks task new no_state same inside)) (omega arith)
-  | no first ↦
-      subst (λ (s : State). min next new.next ≤ s.next) (sym (get_or-set_other states tasks task new no_state (λ e. absurd (omega arith)))) (omega (arith, before task (omega arith)))
-]
+next_write states tasks next new inside before task below =
+    at_written (λ t s. min next new.next ≤ s.next) states tasks new inside (omega arith) task (λ apart. omega (arith, before task (omega (arith, below, apart))))
 
 -- each task's released jobs are at most as many as there were times
 pub between_few : (system : System) (past : List Slot) (time tasks : ℕ) (states : List State) → AreBetween system past time tasks states → IsValid system
@@ -346,12 +323,4 @@ between_few system past time tasks states kept valid task known = elim (dec_le (
 
 -- a write of a state that says the same of the item in hand
 pub hands_write : (states : List State) (task : ℕ) (new : State) (other : ℕ) → task < length states → in_hand new ≡ in_hand (state_at states task) → in_hand (state_at (slice_set states task new) other) ≡ in_hand (state_at states other)
-hands_write states task new other inside e = elim (dec_le other task) [
-  | yes below ↦ elim (dec_le task other) [
-    | yes above ↦
-        let here : other ≡ task = omega arith in
-        ap in_hand (get_or-set_at states task other new no_state here inside) ∙ e ∙ ap (λ (t : ℕ). in_hand (state_at states t)) (sym here)
-    | no before ↦ ap in_hand (get_or-set_other states task other new no_state (λ f. absurd (omega arith)))
-  ]
-  | no after ↦ ap in_hand (get_or-set_other states task other new no_state (λ f. absurd (omega arith)))
-]
+hands_write states task new other inside e = at_written (λ t s. in_hand s ≡ in_hand (state_at states t)) states task new inside e other (λ apart. refl)

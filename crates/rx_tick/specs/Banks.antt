@@ -19,9 +19,9 @@ use Rattle.rx_machine.specs.OnBanks.{TellsOf}
 use Rattle.rx_tick.specs.declared.objects.Objects.{Objects}
 use Rattle.rx_tick.specs.declared.states.Made.{Made}
 use Rattle.rx_tick.specs.declared.states.State.{State}
-use Rattle.rx_tick.specs.Schedule.{Slot, Idle, Busy, Decide, job_in, after, progress, history, slots, slot_at}
-use Rattle.rx_tick.specs.Events.{wins_below}
-use Rattle.rx_tick.specs.Laws.{who}
+use Rattle.rx_slots.specs.Schedule.{Slot, Idle, Busy, Decide, job_in, after, progress, history, slots, slot_at}
+use Rattle.rx_slots.specs.Events.{wins_below}
+use Rattle.rx_slots.specs.Laws.{who}
 use Rattle.rx_tick.specs.Sums.{AreSums}
 use Rattle.rx_tick.specs.States.{job, state_at, after_slot, progress_made, progress_of}
 

@@ -2,7 +2,7 @@
 use Rattle.std.specs.Prelude.{ℕ, ◌≤◌, ◌^◌, List}
 use Rattle.rx_set.specs.System.{System}
 use Rattle.rx_port.specs.Plain.{Whole}
-use Rattle.rx_tick.specs.Schedule.{slots}
+use Rattle.rx_slots.specs.Schedule.{slots}
 use Rattle.rx_tick.specs.States.{AreStates, IsTurn}
 use Rattle.rx_tick.specs.Banks.{IsKept}
 use Rattle.rx_tick.specs.declared.objects.Objects.{Objects}

@@ -1,14 +1,4 @@
-pub mod Schedule
-pub mod Events
-pub mod Counts
 pub mod States
 pub mod Sums
 pub mod Banks
 pub mod Executive
-pub mod Rows
-pub mod Laws
-pub mod Charges
-pub mod Windows
-pub mod Admitted
-pub mod LawRows
-pub mod ChargeRows

@@ -6,8 +6,8 @@ use Rattle.rx_set.specs.System.{System, TaskRow, task_at, task_of, release, due}
 use Rattle.rx_set.specs.Valid.{IsJob, IsValid}
 use Rattle.rx_ledger.specs.declared.events.Event.{Event}
 use Rattle.rx_ledger.specs.declared.events.Event.TheVariants.{Miss, Release}
-use Rattle.rx_tick.specs.Schedule.{Slot, Progress, sooner, start, after, progress, is_finished, completed, lost, ticked, slots, jobs_of}
-use Rattle.rx_tick.specs.Events.{last_job, is_missed, is_released_at}
+use Rattle.rx_slots.specs.Schedule.{Slot, Progress, sooner, start, after, progress, is_finished, completed, lost, ticked, slots, jobs_of}
+use Rattle.rx_slots.specs.Events.{last_job, is_missed, is_released_at}
 use Rattle.rx_tick.specs.declared.states.State.{State}
 use Rattle.rx_tick.specs.declared.states.Made.{Made}
 use Rattle.rx_tick.specs.declared.states.Made.TheVariants.{On, Ended, Lost}

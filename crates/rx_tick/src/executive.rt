@@ -5,27 +5,27 @@ ghost use Rattle.rx_ledger.specs.Intervals.{any_job, preemptions, releases, retr
 ghost use Rattle.rx_port.specs.Seats.{no_counts};
 ghost use Rattle.rx_set.specs.Valid.{KeepsCosts};
 ghost use Rattle.rx_set.specs.declared.policies.Policy.TheVariants.{Edf};
-ghost use Rattle.rx_tick.specs.Admitted.{IsAdmitted};
-ghost use Rattle.rx_tick.specs.Charges.{of_rank_below, of_rank_to};
+ghost use Rattle.rx_slots.specs.Admitted.{IsAdmitted};
+ghost use Rattle.rx_slots.specs.Charges.{of_rank_below, of_rank_to};
 ghost use Rattle.rx_tick.specs.Banks.{IsBankOf, Touches};
 ghost use Rattle.rx_tick.specs.Executive.{moment};
 ghost use Rattle.rx_tick.specs.Sums.{AreSums};
 ghost use Rattle.rx_tick.specs.States.{AreStates, IsTurn, first_state_of};
 ghost use Rattle.rx_set.specs.View.{row_of};
-ghost use Rattle.rx_tick.specs.Schedule.{slots, slot_at, job_in};
-ghost use Rattle.rx_tick.specs.Events.{events, events_of, misses};
+ghost use Rattle.rx_slots.specs.Schedule.{slots, slot_at, job_in};
+ghost use Rattle.rx_slots.specs.Events.{events, events_of, misses};
 
-use crate::charges::retries_are_bounded;
 use crate::looks::tell_misses;
 use crate::objects::Objects;
 use crate::slots::make_slot;
 use crate::states::State;
 use crate::ticks::Tick;
 use crate::turns::Turn;
-use crate::windows::{fitting_spans_miss_nothing, served_sets_miss_nothing};
 use rx_port::Bank;
 use rx_seq::NoMemory;
 use rx_set::{Task, TaskSet};
+use rx_slots::charges::retries_are_bounded;
+use rx_slots::windows::{fitting_spans_miss_nothing, served_sets_miss_nothing};
 use std::alloc::Global;
 use std::marker::Model;
 

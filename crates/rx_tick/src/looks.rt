@@ -3,12 +3,13 @@ ghost use Rattle.std.specs.Prelude.{ℕ, ◌≡◌, ◌≤◌, ◌<◌, ◌+◌,
 ghost use Rattle.std.specs.Option.{ForSome};
 ghost use Rattle.arrayvec.specs.ArrayVec.{array_vec_len};
 ghost use Rattle.rx_set.specs.Valid.{IsJob, IsValid};
-ghost use Rattle.rx_tick.specs.Schedule.{slots, sooner};
-ghost use Rattle.rx_tick.specs.Events.{misses, releases};
+ghost use Rattle.rx_slots.specs.Schedule.{slots, sooner};
+ghost use Rattle.rx_slots.specs.Events.{misses, releases};
 ghost use Rattle.rx_tick.specs.States.{AreStates, IsState, IsBeforeDue, AreBeforeDue, AreBeforeRelease, AreOffers, offer, with_offer, best_of, in_hand, state_at, misses_at, releases_at, is_late_at};
 ghost use Rattle.rx_set.specs.System.{task_at, is_below as key_below};
 
 use crate::states::State;
+use crate::ticks::MOST_EVENTS;
 use crate::turns::Turn;
 use arrayvec::ArrayVec;
 use rx_ledger::Event;
@@ -27,12 +28,18 @@ fn is_late(set: &TaskSet, state: State, task: usize, now: u64) -> bool
 }
 
 /// Tells the miss of a task, if it has one at this time: only the latest job that it released can be due.
-fn tell_miss(set: &TaskSet, state: State, task: usize, now: u64, events: &mut ArrayVec<Event, 131>)
+fn tell_miss(
+    set: &TaskSet,
+    state: State,
+    task: usize,
+    now: u64,
+    events: &mut ArrayVec<Event, MOST_EVENTS>,
+)
     requires valid { IsValid set.now }
     requires known { task < length set.now.tasks }
     requires now { now ≤ 2 ^ 40 }
     requires state { IsState set.now (slots set.now now) now task state }
-    requires room { array_vec_len events.old < 131 }
+    requires room { array_vec_len events.old < MOST_EVENTS }
     ensures told { events.new.items ≡ events.old.items ++ misses_at set.now (slots set.now now) now task }
     ensures few { array_vec_len events.new ≤ array_vec_len events.old + 1 }
 {
@@ -47,12 +54,17 @@ fn tell_miss(set: &TaskSet, state: State, task: usize, now: u64, events: &mut Ar
 }
 
 /// Tells the misses at a time.
-pub fn tell_misses(set: &TaskSet, states: &[State], now: u64, events: &mut ArrayVec<Event, 131>)
+pub fn tell_misses(
+    set: &TaskSet,
+    states: &[State],
+    now: u64,
+    events: &mut ArrayVec<Event, MOST_EVENTS>,
+)
     requires now { now ≤ 2 ^ 40 }
     requires states { AreStates set.now (slots set.now now) now states.now }
     requires room { array_vec_len events.old ≤ 64 }
     ensures told { events.new.items ≡ events.old.items ++ misses set.now (slots set.now now) }
-    ensures few { array_vec_len events.new ≤ array_vec_len events.old + 32 }
+    ensures few { array_vec_len events.new ≤ array_vec_len events.old + 64 }
 {
     for task in 0..states.len() {
         tell_miss(set, states[task], task, now, events);
@@ -94,16 +106,16 @@ pub fn look_at_dues(
     states: &[State],
     turn: &mut Turn,
     now: u64,
-    events: &mut ArrayVec<Event, 131>,
+    events: &mut ArrayVec<Event, MOST_EVENTS>,
 )
     requires now { now < 2 ^ 40 }
     requires states { AreStates set.now (slots set.now now) now states.now }
     requires dues { AreBeforeDue set.now now turn.old.next_due states.now }
-    requires room { array_vec_len events.old ≤ 32 }
+    requires room { array_vec_len events.old ≤ 64 }
     ensures dues { AreBeforeDue set.now (now + 1) turn.new.next_due states.now }
     ensures others { turn.new ≡ record turn.old { next_due = turn.new.next_due } }
     ensures told { events.new.items ≡ events.old.items ++ misses set.now (slots set.now now) }
-    ensures few { array_vec_len events.new ≤ array_vec_len events.old + 32 }
+    ensures few { array_vec_len events.new ≤ array_vec_len events.old + 64 }
 {
     if now < turn.next_due {
         return;
@@ -145,7 +157,7 @@ fn count_release(
     task: usize,
     turn: &mut Turn,
     now: u64,
-    events: &mut ArrayVec<Event, 131>,
+    events: &mut ArrayVec<Event, MOST_EVENTS>,
 ) -> State
     requires valid { IsValid set.now }
     requires known { task < length set.now.tasks }
@@ -153,7 +165,7 @@ fn count_release(
     requires state { IsState set.now (slots set.now now) now task state }
     requires comes { state.next ≡ now }
     requires best { ForSome turn.old.best (IsJob set.now) }
-    requires room { array_vec_len events.old < 131 }
+    requires room { array_vec_len events.old < MOST_EVENTS }
     ensures state { IsState set.now (slots set.now now) (now + 1) task result }
     ensures same { in_hand result ≡ in_hand state }
     ensures released { state.released ≤ result.released }
@@ -189,7 +201,7 @@ fn look_at_release(
     task: usize,
     turn: &mut Turn,
     now: u64,
-    events: &mut ArrayVec<Event, 131>,
+    events: &mut ArrayVec<Event, MOST_EVENTS>,
 )
     requires valid { IsValid set.now }
     requires known { task < length set.now.tasks }
@@ -198,7 +210,7 @@ fn look_at_release(
     requires state { IsState set.now (slots set.now now) now task (state_at states.old task) }
     requires due { IsBeforeDue set.now (now + 1) turn.old.next_due task (state_at states.old task) }
     requires best { ForSome turn.old.best (IsJob set.now) }
-    requires room { array_vec_len events.old < 131 }
+    requires room { array_vec_len events.old < MOST_EVENTS }
     ensures write { states.new ≡ slice_set states.old task (state_at states.new task) }
     ensures state { IsState set.now (slots set.now now) (now + 1) task (state_at states.new task) }
     ensures same { in_hand (state_at states.new task) ≡ in_hand (state_at states.old task) }
@@ -223,7 +235,7 @@ fn count_releases(
     states: &mut [State],
     turn: &mut Turn,
     now: u64,
-    events: &mut ArrayVec<Event, 131>,
+    events: &mut ArrayVec<Event, MOST_EVENTS>,
 ) -> u64
     requires now { now < 2 ^ 40 }
     requires states { AreStates set.now (slots set.now now) now states.old }
@@ -237,7 +249,7 @@ fn count_releases(
     ensures releases { AreBeforeRelease set.now result states.new }
     ensures last { turn.new.last ≡ turn.old.last }
     ensures told { events.new.items ≡ events.old.items ++ releases set.now now }
-    ensures few { array_vec_len events.new ≤ array_vec_len events.old + 32 }
+    ensures few { array_vec_len events.new ≤ array_vec_len events.old + 64 }
 {
     let mut next = u64::MAX;
     for task in 0..states.len() {
@@ -254,7 +266,7 @@ pub fn look_at_releases(
     states: &mut [State],
     turn: &mut Turn,
     now: u64,
-    events: &mut ArrayVec<Event, 131>,
+    events: &mut ArrayVec<Event, MOST_EVENTS>,
 )
     requires now { now < 2 ^ 40 }
     requires states { AreStates set.now (slots set.now now) now states.old }
@@ -269,7 +281,7 @@ pub fn look_at_releases(
     ensures releases { AreBeforeRelease set.now turn.new.next_release states.new }
     ensures last { turn.new.last ≡ turn.old.last }
     ensures told { events.new.items ≡ events.old.items ++ releases set.now now }
-    ensures few { array_vec_len events.new ≤ array_vec_len events.old + 32 }
+    ensures few { array_vec_len events.new ≤ array_vec_len events.old + 64 }
 {
     if now < turn.next_release {
         return;

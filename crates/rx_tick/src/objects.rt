@@ -8,10 +8,11 @@ ghost use Rattle.rx_set.specs.System.{item_at};
 ghost use Rattle.rx_set.specs.declared.items.Item.TheVariants.{Op};
 ghost use Rattle.rx_shape.specs.Layout.{home};
 ghost use Rattle.rx_tick.specs.Banks.{CanStep, HasStepped, HasTicked, IsTicking};
-ghost use Rattle.rx_tick.specs.Events.{decision};
-ghost use Rattle.rx_tick.specs.Schedule.{slot_at, slots};
+ghost use Rattle.rx_slots.specs.Events.{decision};
+ghost use Rattle.rx_slots.specs.Schedule.{slot_at, slots};
 
 use crate::states::{Made, State};
+use crate::ticks::MOST_EVENTS;
 use arrayvec::ArrayVec;
 use rx_ledger::Event;
 use rx_machine::laws::steps_on_a_bank;
@@ -104,11 +105,11 @@ impl Objects {
         object: u32,
         call: &Call,
         now: u64,
-        events: &mut ArrayVec<Event, 131>,
+        events: &mut ArrayVec<Event, MOST_EVENTS>,
     ) -> Made
         requires is { IsTicking set.now now job state.now self.old }
         requires item { item_at set.now job state.now.complete ≡ Some (Op object call.now) }
-        requires room { array_vec_len events.old < 131 }
+        requires room { array_vec_len events.old < MOST_EVENTS }
         ensures ticked { HasTicked set.now now job state.now result self.old self.new }
         ensures told { events.new.items ≡ events.old.items ++ decision set.now (slots set.now now) (slot_at set.now now) }
         ensures few { array_vec_len events.new ≤ array_vec_len events.old + 1 }

@@ -4,14 +4,15 @@ ghost use Rattle.std.specs.Option.{ForSome};
 ghost use Rattle.arrayvec.specs.ArrayVec.{array_vec_len};
 ghost use Rattle.rx_set.specs.Valid.{IsJob, IsWorkAt};
 ghost use Rattle.rx_set.specs.System.{System, task_of};
-ghost use Rattle.rx_tick.specs.Schedule.{Slot, slots, slot_at, job_in, same, is_finished};
-ghost use Rattle.rx_tick.specs.Events.{preempted, finish, events_of, decision};
+ghost use Rattle.rx_slots.specs.Schedule.{Slot, slots, slot_at, job_in, same, is_finished};
+ghost use Rattle.rx_slots.specs.Events.{preempted, finish, events_of, decision};
 ghost use Rattle.rx_tick.specs.States.{AreStates, IsTurn, AreBeforeDue, AreBeforeRelease, best_of, after_slot};
 ghost use Rattle.rx_tick.specs.Banks.{HasTicked, IsBankOf, IsInHand, IsKept, IsTicking, KeepsMachines, Touches};
 
 use crate::looks::{look_at_dues, look_at_releases, pick};
 use crate::objects::Objects;
 use crate::states::{Made, State};
+use crate::ticks::MOST_EVENTS;
 use crate::turns::Turn;
 use arrayvec::ArrayVec;
 use rx_ledger::Event;
@@ -46,11 +47,11 @@ fn tell_preemption(
     states: &[State],
     turn: &Turn,
     now: u64,
-    events: &mut ArrayVec<Event, 131>,
+    events: &mut ArrayVec<Event, MOST_EVENTS>,
 )
     requires states { AreStates set.now (slots set.now now) (now + 1) states.now }
     requires last { ForSome turn.now.last (IsJob set.now) }
-    requires room { array_vec_len events.old < 131 }
+    requires room { array_vec_len events.old < MOST_EVENTS }
     ensures told { events.new.items ≡ events.old.items ++ preempted set.now (slots set.now now) turn.now.last turn.now.best }
     ensures few { array_vec_len events.new ≤ array_vec_len events.old + 1 }
 {
@@ -92,11 +93,11 @@ fn make_tick(
     state: &State,
     job: Job,
     now: u64,
-    events: &mut ArrayVec<Event, 131>,
+    events: &mut ArrayVec<Event, MOST_EVENTS>,
 ) -> Made
     requires is { IsTicking set.now now job state.now objects.old }
     requires items { items.now ≡ (task_of set.now job).items }
-    requires room { array_vec_len events.old < 131 }
+    requires room { array_vec_len events.old < MOST_EVENTS }
     ensures ticked { HasTicked set.now now job state.now result objects.old objects.new }
     ensures told { events.new.items ≡ events.old.items ++ decision set.now (slots set.now now) (slot_at set.now now) }
     ensures few { array_vec_len events.new ≤ array_vec_len events.old + 1 }
@@ -117,11 +118,11 @@ fn advance(
     state: &mut State,
     job: Job,
     now: u64,
-    events: &mut ArrayVec<Event, 131>,
+    events: &mut ArrayVec<Event, MOST_EVENTS>,
 )
     requires is { IsTicking set.now now job state.old objects.old }
     requires finished { state.old.finished < 2 ^ 63 }
-    requires room { array_vec_len events.old < 131 }
+    requires room { array_vec_len events.old < MOST_EVENTS }
     ensures state { state.new ≡ after_slot set.now now job (slot_at set.now now) state.old }
     ensures bank { IsBankOf set.now (slot_at set.now now ∷ slots set.now now) objects.new.bank }
     ensures hand { IsInHand set.now (slot_at set.now now ∷ slots set.now now) objects.new job.task state.new }
@@ -145,7 +146,7 @@ fn give_slot(
     turn: &mut Turn,
     job: Job,
     now: u64,
-    events: &mut ArrayVec<Event, 131>,
+    events: &mut ArrayVec<Event, MOST_EVENTS>,
 )
     requires now { now < 2 ^ 40 }
     requires states { AreStates set.now (slots set.now now) (now + 1) states.old }
@@ -180,7 +181,7 @@ fn take_slot(
     objects: &mut Objects,
     turn: &mut Turn,
     now: u64,
-    events: &mut ArrayVec<Event, 131>,
+    events: &mut ArrayVec<Event, MOST_EVENTS>,
 )
     requires now { now < 2 ^ 40 }
     requires states { AreStates set.now (slots set.now now) (now + 1) states.old }
@@ -209,7 +210,7 @@ pub fn make_slot(
     objects: &mut Objects,
     turn: &mut Turn,
     now: u64,
-    events: &mut ArrayVec<Event, 131>,
+    events: &mut ArrayVec<Event, MOST_EVENTS>,
 )
     requires now { now < 2 ^ 40 }
     requires states { AreStates set.now (slots set.now now) now states.old }

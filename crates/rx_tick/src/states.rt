@@ -1,6 +1,6 @@
 // What the executive keeps of a task.
 ghost use Rattle.std.specs.Prelude.{◌≡◌, ◌<◌, ◌+◌, ◌^◌};
-ghost use Rattle.rx_tick.specs.Schedule.{completed};
+ghost use Rattle.rx_slots.specs.Schedule.{completed};
 ghost use Rattle.rx_tick.specs.States.{with_progress, progress_made, progress_of};
 
 /// What is kept of a task: how many jobs were released, when the next one is, how many are finished, and how far the

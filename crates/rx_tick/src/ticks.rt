@@ -5,13 +5,15 @@ use arrayvec::ArrayVec;
 use rx_ledger::Event;
 use rx_set::Job;
 
-/// A slot of the schedule: its number, the job that has it, and its events in order. There is room for a miss and a
-/// release of each of 64 tasks, a preemption, a reply or a retry, and a finish. A valid set has fewer tasks.
+/// The most events of a slot: a miss and a release of each of 64 tasks, a preemption, a reply or a retry, and a finish.
+pub const MOST_EVENTS: usize = 131;
+
+/// A slot of the schedule: its number, the job that has it, and its events in order.
 #[derive(Debug, Drop)]
 pub struct Tick {
     pub at: u64,
     pub slot: Option<Job>,
-    pub events: ArrayVec<Event, 131>,
+    pub events: ArrayVec<Event, MOST_EVENTS>,
 }
 
 impl Tick {

@@ -2,7 +2,7 @@ use Rattle.std.proofs.Common.{◌∙◌, ◌+◌, ap, map, sym, subst, List, ◌
 use Rattle.rx_set.specs.declared.jobs.Job.{Job}
 use Rattle.rx_set.specs.System.{TaskRow}
 use Rattle.rx_ledger.specs.declared.events.Event.TheVariants.{Release}
-use Rattle.rx_tick.specs.Schedule.{slots}
+use Rattle.rx_slots.specs.Schedule.{slots}
 use Rattle.rx_tick.specs.States.{IsState}
 use Rattle.rx_tick.proofs.Told.{released_some, state_released, row_is}
 use Rattle.rx_tick.proofs.looks.count_release.Goals as goal

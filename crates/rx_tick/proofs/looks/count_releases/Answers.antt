@@ -3,7 +3,7 @@ use Rattle.std.specs.Option.{ForSome}
 use Rattle.rx_set.specs.declared.jobs.Job.{Job}
 use Rattle.rx_set.specs.Valid.{IsJob}
 use Rattle.rx_ledger.specs.declared.events.Event.{Event}
-use Rattle.rx_tick.specs.Schedule.{slots}
+use Rattle.rx_slots.specs.Schedule.{slots}
 use Rattle.rx_tick.specs.declared.states.State.{State}
 use Rattle.rx_tick.specs.States.{AreBeforeDue, AreOffers, best_of, in_hand, state_at, with_offer}
 use Rattle.rx_tick.proofs.Told.{AreBetween, releases_more, releases_all, append_more, between_more, between_few, due_write, next_write, hands_write}

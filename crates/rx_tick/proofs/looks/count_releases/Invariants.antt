@@ -1,9 +1,9 @@
 use Rattle.std.proofs.Common.{ℕ, ◌≡◌, ◌≤◌, ◌<◌, ◌+◌, ◌++◌, length}
 use Rattle.rx_ledger.specs.declared.events.Event.TheVariants.{Release}
-use Rattle.rx_tick.specs.Schedule.{slots}
-use Rattle.rx_tick.specs.Events.{is_released_at}
+use Rattle.rx_slots.specs.Schedule.{slots}
+use Rattle.rx_slots.specs.Events.{is_released_at}
 use Rattle.rx_tick.specs.States.{AreBeforeDue, best_of, in_hand, state_at}
-use Rattle.rx_tick.proofs.Lists.{told_of}
+use Rattle.rx_slots.proofs.Lists.{told_of}
 use Rattle.rx_tick.proofs.Told.{AreBetween}
 use Rattle.rx_tick.proofs.looks.count_releases.Given as goal
 

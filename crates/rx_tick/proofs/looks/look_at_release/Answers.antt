@@ -1,7 +1,7 @@
 use Rattle.std.proofs.Common.{ap, map, sym}
 use Rattle.std.proofs.lemmas.List.{set-get_or}
 use Rattle.rx_ledger.specs.declared.events.Event.TheVariants.{Release}
-use Rattle.rx_tick.specs.Schedule.{slots}
+use Rattle.rx_slots.specs.Schedule.{slots}
 use Rattle.rx_tick.specs.States.{no_state, state_at}
 use Rattle.rx_tick.proofs.Told.{released_none, append_none}
 use Rattle.rx_tick.proofs.looks.look_at_release.Goals as goal

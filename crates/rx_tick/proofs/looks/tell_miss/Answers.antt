@@ -1,8 +1,8 @@
 use Rattle.std.proofs.Common.{◌∙◌, ap, map, sym, arith, List, ◌++◌}
 use Rattle.rx_set.specs.declared.jobs.Job.{Job}
 use Rattle.rx_ledger.specs.declared.events.Event.TheVariants.{Miss}
-use Rattle.rx_tick.specs.Schedule.{slots}
-use Rattle.rx_tick.proofs.Prefixes.{slots_count}
+use Rattle.rx_slots.specs.Schedule.{slots}
+use Rattle.rx_slots.proofs.Prefixes.{slots_count}
 use Rattle.rx_tick.proofs.Told.{missed_some, missed_none, append_none}
 use Rattle.rx_tick.proofs.looks.tell_miss.Goals as goal
 

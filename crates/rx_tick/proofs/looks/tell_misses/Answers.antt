@@ -1,6 +1,6 @@
 use Rattle.std.proofs.Common.{◌∙◌, ap, sym, append-nil, arith, List, ◌++◌}
 use Rattle.rx_ledger.specs.declared.events.Event.{Event}
-use Rattle.rx_tick.specs.Schedule.{slots}
+use Rattle.rx_slots.specs.Schedule.{slots}
 use Rattle.rx_tick.proofs.Told.{misses_more, misses_all, append_more}
 use Rattle.rx_tick.proofs.looks.tell_misses.Goals as goal
 

@@ -1,8 +1,8 @@
 use Rattle.std.proofs.Common.{◌≡◌, ◌≤◌, ◌+◌, ◌++◌, length}
 use Rattle.rx_ledger.specs.declared.events.Event.TheVariants.{Miss}
-use Rattle.rx_tick.specs.Schedule.{slots}
-use Rattle.rx_tick.specs.Events.{is_missed}
-use Rattle.rx_tick.proofs.Lists.{told_of}
+use Rattle.rx_slots.specs.Schedule.{slots}
+use Rattle.rx_slots.specs.Events.{is_missed}
+use Rattle.rx_slots.proofs.Lists.{told_of}
 use Rattle.rx_tick.proofs.looks.tell_misses.Given as goal
 
 abbrev pub invariant-loop-task : goal.invariant-loop-task

@@ -4,10 +4,10 @@ use Rattle.std.proofs.lemmas.Grind.{get_or-set_at}
 use Rattle.rx_ledger.specs.declared.events.Event.{Event}
 use Rattle.rx_ledger.specs.declared.events.Event.TheVariants.{Finish}
 use Rattle.rx_tick.specs.declared.states.State.{State}
-use Rattle.rx_tick.specs.Schedule.{slots, slot_at}
-use Rattle.rx_tick.specs.Events.{decision, finish}
+use Rattle.rx_slots.specs.Schedule.{slots, slot_at}
+use Rattle.rx_slots.specs.Events.{decision, finish}
 use Rattle.rx_tick.specs.States.{no_state, AreStates, AreBeforeDue, AreBeforeRelease, best_of}
-use Rattle.rx_tick.proofs.Prefixes.{slots_count}
+use Rattle.rx_slots.proofs.Prefixes.{slots_count}
 use Rattle.rx_tick.proofs.Told.{append_none}
 use Rattle.rx_tick.proofs.Chosen.{offers_from}
 use Rattle.rx_tick.proofs.Moves.{offered_here, states_after, best_after, due_after, release_after, finish_here, done, not_done}

@@ -1,9 +1,9 @@
 use Rattle.std.proofs.Common.{◌∙◌, ◌++◌, ap, List}
 use Rattle.rx_ledger.specs.declared.events.Event.{Event}
 use Rattle.rx_tick.specs.declared.turns.Turn.{Turn}
-use Rattle.rx_tick.specs.Events.{releases}
+use Rattle.rx_slots.specs.Events.{releases}
 use Rattle.rx_tick.proofs.Moves.{job_of_slot, last_of_next, all_told}
-use Rattle.rx_tick.specs.Schedule.{slots}
+use Rattle.rx_slots.specs.Schedule.{slots}
 use Rattle.rx_tick.proofs.Kept.{kept_same}
 use Rattle.rx_tick.proofs.slots.make_slot.Goals as goal
 

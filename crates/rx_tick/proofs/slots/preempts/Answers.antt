@@ -1,6 +1,6 @@
 use Rattle.std.proofs.Common.{◌∙◌, ◌&&◌, nat_lt, not, Bool, ap, sym, arith}
 use Rattle.std.proofs.lemmas.Bool.Decides.{nat_tests}
-use Rattle.rx_tick.specs.Schedule.{is_finished}
+use Rattle.rx_slots.specs.Schedule.{is_finished}
 use Rattle.rx_tick.specs.States.{state_at}
 use Rattle.rx_tick.proofs.Told.{finished_is}
 use Rattle.rx_tick.proofs.Moves.{preempts_is}

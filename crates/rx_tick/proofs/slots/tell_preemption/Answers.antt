@@ -1,7 +1,7 @@
 use Rattle.std.proofs.Common.{◌∙◌, ◌+◌, ◌++◌, List, ap, sym}
 use Rattle.rx_ledger.specs.declared.events.Event.{Event}
-use Rattle.rx_tick.specs.Schedule.{slots}
-use Rattle.rx_tick.proofs.Prefixes.{slots_count}
+use Rattle.rx_slots.specs.Schedule.{slots}
+use Rattle.rx_slots.proofs.Prefixes.{slots_count}
 use Rattle.rx_tick.proofs.Told.{append_none}
 use Rattle.rx_tick.proofs.Moves.{preempted_is, preempted_not}
 use Rattle.rx_tick.proofs.slots.tell_preemption.Goals as goal

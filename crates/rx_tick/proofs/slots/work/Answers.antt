@@ -1,7 +1,7 @@
 use Rattle.std.proofs.Common.{ℕ, ◌≡◌, ◌+◌, ◌-◌, ◌==◌, Bool, true, false, if◌then◌else◌, arith, ap, sym, ◌∙◌}
 use Rattle.std.proofs.lemmas.Bool.Decides.{nat_tests}
 use Rattle.rx_set.specs.System.{item_at}
-use Rattle.rx_tick.specs.Schedule.{completed, ticked}
+use Rattle.rx_slots.specs.Schedule.{completed, ticked}
 use Rattle.rx_tick.specs.States.{progress_of}
 use Rattle.rx_tick.specs.declared.states.Made.TheVariants.{On, Ended}
 use Rattle.rx_tick.proofs.Banks.{worked, made_small}

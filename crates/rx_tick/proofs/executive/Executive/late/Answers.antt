@@ -1,11 +1,11 @@
 use Rattle.std.proofs.Common.{◌≡◌, List, [], ◌++◌, ◌∙◌, ap, subst}
 use Rattle.rx_ledger.specs.declared.events.Event.{Event}
 use Rattle.rx_set.specs.Valid.{KeepsCosts}
-use Rattle.rx_tick.specs.Admitted.{IsAdmitted}
-use Rattle.rx_tick.specs.Events.{misses}
+use Rattle.rx_slots.specs.Admitted.{IsAdmitted}
+use Rattle.rx_slots.specs.Events.{misses}
 use Rattle.rx_tick.specs.Executive.{Moment}
-use Rattle.rx_tick.specs.Schedule.{slots}
-use Rattle.rx_tick.proofs.NoMisses.{admitted_sets}
+use Rattle.rx_slots.specs.Schedule.{slots}
+use Rattle.rx_slots.proofs.NoMisses.{admitted_sets}
 use Rattle.rx_tick.proofs.executive.Executive.late.Goals as goal
 
 pub returns-clause-on_time : goal.returns-clause-on_time

@@ -4,13 +4,13 @@ use Rattle.rx_ledger.specs.Counts.{is_miss}
 use Rattle.rx_ledger.specs.Intervals.{any_job, preemptions, releases, retries}
 use Rattle.rx_set.specs.Valid.{KeepsCosts}
 use Rattle.rx_set.specs.declared.policies.Policy.TheVariants.{Edf}
-use Rattle.rx_tick.specs.Admitted.{IsAdmitted}
+use Rattle.rx_slots.specs.Admitted.{IsAdmitted}
 use Rattle.rx_tick.specs.Banks.{Touches}
-use Rattle.rx_tick.specs.Charges.{of_rank_below, of_rank_to}
-use Rattle.rx_tick.specs.Schedule.{slots, slot_at, job_in}
-use Rattle.rx_tick.specs.Events.{events, events_of}
+use Rattle.rx_slots.specs.Charges.{of_rank_below, of_rank_to}
+use Rattle.rx_slots.specs.Schedule.{slots, slot_at, job_in}
+use Rattle.rx_slots.specs.Events.{events, events_of}
 use Rattle.rx_tick.specs.Executive.{Moment}
-use Rattle.rx_tick.proofs.NoMisses.{admitted_sets, slot_misses}
+use Rattle.rx_slots.proofs.NoMisses.{admitted_sets, slot_misses}
 use Rattle.rx_tick.proofs.executive.Executive.tick.Goals as goal
 
 pub returns-clause-slot : goal.returns-clause-slot

@@ -5,8 +5,8 @@ use Rattle.rx_seq.specs.History.{part_at}
 use Rattle.rx_shape.specs.Layout.{Layout}
 use Rattle.rx_ledger.specs.declared.events.Event.{Event}
 use Rattle.rx_tick.specs.declared.objects.Objects.{Objects}
-use Rattle.rx_tick.specs.Events.{decision}
-use Rattle.rx_tick.specs.Schedule.{slots, slot_at}
+use Rattle.rx_slots.specs.Events.{decision}
+use Rattle.rx_slots.specs.Schedule.{slots, slot_at}
 use Rattle.rx_tick.proofs.Banks.{exists_here, fits_here, seat_here, steps, tick_going, told_going, tick_idle, told_idle, tick_won, told_won, tick_lost, told_lost, not_spent}
 use Rattle.rx_tick.proofs.objects.Objects.operate.Goals as goal
 

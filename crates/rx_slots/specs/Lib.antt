@@ -1,0 +1,11 @@
+pub mod Schedule
+pub mod Events
+pub mod Counts
+pub mod AttemptSlots
+pub mod Rows
+pub mod Laws
+pub mod Charges
+pub mod Windows
+pub mod Admitted
+pub mod LawRows
+pub mod ChargeRows

@@ -1,8 +1,0 @@
-use Rattle.rx_tick.proofs.Bodies.{in_turn, follows}
-use Rattle.rx_tick.proofs.laws.entries_follow_the_bodies.Goals as goal
-
-pub returns-clause-in_turn : goal.returns-clause-in_turn
-returns-clause-in_turn c = in_turn
-
-pub returns-clause-entries : goal.returns-clause-entries
-returns-clause-entries c = follows
