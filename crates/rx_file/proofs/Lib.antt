@@ -1,5 +1,5 @@
-pub mod Words
-pub mod Read
-pub mod Valid
-pub mod Numbers
-pub mod Found
+mod Words
+mod Read
+mod Valid
+mod Numbers
+mod Found

@@ -1,20 +1,18 @@
 -- Objects, tasks and demand rows that were read make a valid set.
 use Rattle.std.proofs.Common.{◌≡◌, ◌≤◌, ◌<◌, ◌+◌, ℕ, true, false, List, [], ◌∷◌, ◌++◌, length, get_or, map, refl, arith, inl, inr, Option, Some, None}
-use Rattle.std.specs.Prelude.{slice_get}
-use Rattle.std.specs.List.{All}
 use Rattle.std.proofs.lemmas.Bool.{cases_lt}
 use Rattle.std.proofs.lemmas.Bool.Decides.{nat_tests}
 use Rattle.std.proofs.lemmas.Grind.{common_steps}
 use Rattle.std.proofs.lemmas.List.{map-append, get_or_append_left, get_or_push, get_or_past}
 use Rattle.std.proofs.lemmas.List.Folds.{list_any_at}
 use Rattle.std.proofs.lemmas.List.Elements.{All-push}
-use Rattle.std.proofs.lemmas.Option.{slice_get_within, get_or_from_slice_get}
 use Rattle.rx_set.specs.declared.policies.Policy.{Policy}
 use Rattle.rx_set.specs.declared.demands.Demand.{Demand}
 use Rattle.rx_set.specs.declared.items.Item.{Item}
 use Rattle.rx_set.specs.declared.items.Item.TheVariants.{Work, Op}
 use Rattle.rx_set.specs.System.{ObjectRow, TaskRow, no_task}
 use Rattle.rx_set.specs.Valid.{IsValid, IsObjectRow, IsTaskRow, IsDemandRow, NameOneItem, NamesOnce, no_demand}
+use Rattle.rx_set.proofs.Elements.{at_place}
 use Rattle.rx_file.specs.Demands.{is_work, is_named, name_one_item}
 use Rattle.rx_file.specs.Fields.{is_taken}
 use Rattle.rx_file.specs.Gives.{alone, tasks_alone, AreRows, AreObjects, AreTasks, AreDemands, HaveBodies}
@@ -27,10 +25,6 @@ rows_next IsGood name_of rows row before good new = record {
   good = All-push IsGood rows row before.good good;
   names = simp map-append (rw (repeat_next (map name_of rows) (name_of row), before.names, new) refl);
 }
-
--- what is so of each is so of the one at a place
-at_place : {X : Type 0} (P : X → Type 0) (xs : List X) (place : ℕ) (x : X) → All P xs → slice_get xs place ≡ Some x → P x
-at_place P xs place x all e = rw (get_or_from_slice_get xs place x x e) at (all place x (slice_get_within xs place x e))
 
 -- a task that is valid among some objects is so in each system of these objects
 task_among : (policy : Policy) (objects : List ObjectRow) (tasks : List TaskRow) (demands : List Demand) (row : TaskRow)
@@ -50,7 +44,7 @@ demand_among : (policy : Policy) (objects : List ObjectRow) (tasks : List TaskRo
 demand_among policy objects tasks demands row good = record { task = good.task; job = good.job; item = good.item; work = good.work; ticks = good.ticks }
 
 pub valid : (policy : Policy) (objects : List ObjectRow) (tasks : List TaskRow) (demands : List Demand) → AreObjects objects → AreTasks objects tasks
-    → AreDemands tasks demands → length objects ≤ 16 → 1 ≤ length tasks → length tasks ≤ 32 → length demands ≤ 1000
+    → AreDemands tasks demands → length objects ≤ 16 → 1 ≤ length tasks → length tasks ≤ 64 → length demands ≤ 1000
     → IsValid (record { policy = policy; objects = objects; tasks = tasks; demands = demands })
 valid policy objects tasks demands are_objects are_tasks are_demands few_objects some few few_demands = record {
   some_tasks = (some, few);

@@ -52,8 +52,8 @@ pub other_key : set_of (codes "tasks = []\ntask = [{}]") ≡ Err (Field section.
 unfolding file_on_literals
 other_key = refl
 
--- 33 tasks, whatever they are
-pub many_tasks : set_of (codes "task = [0,0,0,0,0,0,0,0,0,0,0,0,0,0,0,0,0,0,0,0,0,0,0,0,0,0,0,0,0,0,0,0,0]") ≡ Err (TooMany section.Task 33)
+-- 65 tasks, whatever they are
+pub many_tasks : set_of (codes "task = [0,0,0,0,0,0,0,0,0,0,0,0,0,0,0,0,0,0,0,0,0,0,0,0,0,0,0,0,0,0,0,0,0,0,0,0,0,0,0,0,0,0,0,0,0,0,0,0,0,0,0,0,0,0,0,0,0,0,0,0,0,0,0,0,0]") ≡ Err (TooMany section.Task 65)
 unfolding file_on_literals
 many_tasks = refl
 

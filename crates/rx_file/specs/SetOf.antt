@@ -91,12 +91,12 @@ object_rows file = do
 unfoldable pub some_rows : Items → Result Items FileFault
 some_rows rows = if items_len rows == 0 then Err (range top label.Task) else Ok rows
 
--- the array at `task`, of 1 to 32 rows
+-- the array at `task`, of 1 to 64 rows
 unfoldable pub task_rows : Members → Result Items FileFault
 task_rows file = do
   all ← array_at top label.Task file
   rows ← some_rows all
-  up_to 32 section.Task rows
+  up_to 64 section.Task rows
 
 -- the array at `demand`, which may be left out, of at most 1,000 rows
 unfoldable pub demand_rows : Members → Result Items FileFault

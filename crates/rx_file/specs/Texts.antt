@@ -1,6 +1,7 @@
 -- Words and numbers as text.
 use Rattle.std.specs.Prelude.{ℕ, ◌+◌, ◌-◌, ◌*◌, ◌==◌, ◌&&◌, nat_le, not, Bool, if◌then◌else◌, List, length, fold, filter, Option, Some, None}
 use Rattle.std.specs.List.{list_all, slice_split}
+use Rattle.rx_seq.specs.Table.{most_value}
 use Rattle.rx_set.specs.Names.{is_digit}
 
 -- the number that digits spell
@@ -25,7 +26,7 @@ within least most None = None
 
 -- the number of a number word: 1 to 10 digits whose value is at most 2 ^ 32 - 1
 abbrev pub word_number : List ℕ → Option ℕ
-word_number word = within 0 4294967295 (number_of 10 word)
+word_number word = within 0 most_value (number_of 10 word)
 
 -- a space, and a word that is not empty
 abbrev pub is_space : ℕ → Bool

@@ -77,13 +77,13 @@ fn object_rows<'a>(file: &'a Table) -> Result<&'a [Value], FileFault>
 #[tactic(auto, using(crate::proofs::Read::items_len_view), unfolding(crate::specs::SetOf::task_rows, crate::specs::SetOf::some_rows))]
 fn task_rows<'a>(file: &'a Table) -> Result<&'a [Value], FileFault>
     ensures value { Shows (λ rows. items_view rows.now) (task_rows (table_view file.now)) result }
-    ensures length { IfOk result (λ rows. (1 ≤ length rows.now) × (length rows.now ≤ 32)) }
+    ensures length { IfOk result (λ rows. (1 ≤ length rows.now) × (length rows.now ≤ 64)) }
 {
     let rows = array_at(TOP, Label::Task, file)?;
     if rows.is_empty() {
         return Err(TOP.range(Label::Task));
     }
-    up_to(32, Section::Task, rows)
+    up_to(64, Section::Task, rows)
 }
 
 /// The array at `demand`.
@@ -148,7 +148,7 @@ fn read_document(alloc: Global, bytes: &[u8]) -> Result<Table, FileFault>
 /// - `kind`, the string `cell`, `queue`, `list` or `registers`;
 /// - `capacity`, an integer from 1 to 64 for a queue or a list and from 1 to 16 for registers. A cell must have none.
 ///
-/// `task` is an array of 1 to 32 tables. Each has
+/// `task` is an array of 1 to 64 tables. Each has
 ///
 /// - `name`, of the same form, and not the name of an earlier task;
 /// - `period`, an integer from 1 to 1,000,000;

@@ -96,7 +96,7 @@ impl<'a> Tasks<'a> {
 
     /// One task more, whose name is new.
     fn with(self, task: ReadTask<'a>) -> Result<Tasks<'a>, FileFault>
-        requires few { length self < 32 }
+        requires few { length self < 64 }
         requires name { is_name task.name.now ≡ true }
         requires new { is_taken (map task_name self) task.name.now ≡ false }
         ensures tasks { IfOk result (λ tasks. tasks ≡ self.entry ++ read_task task.entry ∷ []) }
@@ -190,7 +190,7 @@ fn read_row<'a>(
     before: &Tasks<'a>,
     value: &'a Value,
 ) -> Result<ReadTask<'a>, FileFault>
-    requires { length before.now < 32 }
+    requires { length before.now < 64 }
     ensures task { Gives read_task (task_of_value objects.now before.now (view value.now)) result }
     ensures good { IfOk result (λ task. IsTaskRow (alone objects.now) (read_task task)) }
     ensures new { IfOk result (λ task. is_taken (map task_name before.now) task.name.now ≡ false) }
@@ -212,7 +212,7 @@ pub(crate) fn read_tasks<'a>(
     objects: &Objects<'a>,
     values: &'a [Value],
 ) -> Result<Tasks<'a>, FileFault>
-    requires { length values.now ≤ 32 }
+    requires { length values.now ≤ 64 }
     ensures tasks { Gives (λ tasks. tasks) (tasks_of objects.now (items_view values.now)) result }
     ensures good { IfOk result (AreTasks objects.now) }
     ensures count { IfOk result (λ tasks. length tasks ≡ length values.now) }

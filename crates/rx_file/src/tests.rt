@@ -1,4 +1,4 @@
-// The set of a file as it is written, two faults, and numbers. All other faults are cases of the program.
+// The set of a file as it is written, its charges, two faults, and numbers. All other faults are cases of the program.
 use super::{FileFault, number_of, read_set};
 use arrayvec::ArrayVec;
 use rx_seq::{Call, Kind, Part, Row};
@@ -72,6 +72,17 @@ ticks = 2
 item = 1
 job = 1
 task = 'a'
+";
+
+/// A sensor that puts into a queue and counts, a controller that takes from the queue and shifts among registers, and a
+/// logger that looks at both.
+const CONTROL: &str = r"
+object = [{name='samples', kind='queue', capacity=16}, {name='beats', kind='cell'}, {name='axes', kind='registers', capacity=8}]
+task = [
+  {name='sensor', period=500, body=['work 60', 'put samples 7', 'add beats 1']},
+  {name='control', period=1000, body=['take samples', 'take samples', 'work 200', 'shift axes 0 1 5']},
+  {name='logger', period=5000, body=['read axes 1', 'get beats', 'work 900']},
+]
 ";
 
 /// A task whose second item names an object that is not there.
@@ -198,6 +209,23 @@ fn whole_sets(rt: HostRuntime) -> Result<(), Fail> {
     ];
     assert!(rt; set.demands() == demands.as_slice());
     Ok(())
+}
+
+#[test]
+fn charges_of_a_control_loop(rt: HostRuntime) -> Result<(), Fail> {
+    let Ok(set) = read_set(rt.alloc(), CONTROL.as_bytes()) else {
+        return Err(Fail::from("no set"));
+    };
+    match set.policy() {
+        Policy::Edf => Err(Fail::from("another policy")),
+        Policy::Rm | Policy::Dm => {
+            assert_eq!(rt; set.charge(2, 1), 38);
+            assert_eq!(rt; set.charge(3, 1), 38);
+            assert_eq!(rt; set.charge(3, 2), 22);
+            assert_eq!(rt; set.retry_cost(), 38);
+            Ok(())
+        }
+    }
 }
 
 #[test]

@@ -1,9 +1,10 @@
-pub mod Parts
-pub mod Bodies
-pub mod Making
-pub mod Plain
-pub mod Renaming
-pub mod Listing
-pub mod Merging
-pub mod Seats
-pub mod Concrete
+mod Parts
+mod Bodies
+mod Making
+mod Plain
+mod Renaming
+mod Listing
+mod Merging
+mod Seats
+mod Concrete
+mod EndRows

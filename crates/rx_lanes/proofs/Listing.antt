@@ -1,11 +1,12 @@
 -- The entries of a task from its script and its answers.
-use Rattle.std.proofs.Common.{ℕ, zero, suc, ◌≡◌, ◌≢◌, ◌+◌, ◌<◌, ◌≤◌, ◌%◌, Bool, true, false, List, [], ◌∷◌, ◌++◌, length, map, take, drop, get_or, slice_get, Some, None, refl, sym, ap, ap₂, ◌∙◌, subst, inl, inr, arith, length-append, append-nil, ◌==◌, eq-eqb, ne_eqb, take-add, Vec, Global}
+use Rattle.std.proofs.Common.{ℕ, zero, suc, ◌≡◌, ◌≢◌, ◌+◌, ◌<◌, ◌≤◌, ◌%◌, Bool, true, false, List, [], ◌∷◌, ◌++◌, length, map, take, drop, get_or, slice_get, Some, refl, sym, ap, ap₂, ◌∙◌, subst, inl, inr, arith, length-append, append-nil, ◌==◌, eq-eqb, ne_eqb, take-add, Vec, Global}
 use Rattle.std.specs.Prelude.{filter}
 use Rattle.std.specs.List.{flat_map}
 use Rattle.std.proofs.Math.Decide.{dec_le}
 use Rattle.std.proofs.lemmas.Bool.{cases_Bool, eqb-true}
 use Rattle.std.proofs.lemmas.List.{length-map, map-append, map_push, take_more, get_or-map, get_or_append_left, get_or_push}
 use Rattle.std.proofs.lemmas.List.Elements.{filter-append}
+use Rattle.std.proofs.lemmas.Option.{same_Some, none-some}
 use Rattle.rx_seq.specs.declared.entries.Entry.{Entry}
 use Rattle.rx_set.specs.System.{System}
 use Rattle.rx_merge.specs.Merged.{list_at, lists_of}
@@ -20,14 +21,8 @@ use Rattle.rx_lanes.proofs.Plain.{is_by}
 -- what holds at each place of a list and of one more entry
 place_more : (P : ℕ → Entry → Type 0) (list : List Entry) (last : Entry) → ((place : ℕ) (entry : Entry) → slice_get list place ≡ Some entry → P place entry) → P (length list) last
     → (place : ℕ) (entry : Entry) → slice_get (list ++ last ∷ []) place ≡ Some entry → P place entry
-place_more P [] last all here zero entry at = subst (P zero) (some_same last entry at) here
-  where
-    some_same : (x y : Entry) → Some x ≡ Some y → x ≡ y
-    some_same x y e = cc
-place_more P [] last all here (suc place) entry at = absurd (none_some entry at)
-  where
-    none_some : (x : Entry) → None ≡ Some x → ⊥
-    none_some x e = cc
+place_more P [] last all here zero entry at = subst (P zero) (same_Some last entry at) here
+place_more P [] last all here (suc place) entry at = absurd (none-some entry at)
 place_more P (x ∷ list) last all here zero entry at = all zero entry at
 place_more P (x ∷ list) last all here (suc place) entry at =
     let same : length (x ∷ list) ≡ suc (length list) = refl in

@@ -4,20 +4,21 @@ use mathlib.Core.Option.{some, some-injective, some-ne-none}
 use lib.ListN.{get_elem?}
 use Rattle.std.proofs.Math.Decide.{dec_le}
 use Rattle.std.proofs.lemmas.List.{length-map, get_or-map, get_or_default, get_or_append_left, get_or_push, map_push}
-use Rattle.std.proofs.lemmas.Option.{slice_get-get_or}
+use Rattle.std.proofs.lemmas.Option.{same_Some}
 use Rattle.rx_seq.specs.declared.kinds.Part.{Part}
 use Rattle.rx_seq.specs.declared.entries.Entry.{Entry}
 use Rattle.rx_seq.specs.Table.{IsPart}
-use Rattle.rx_seq.specs.History.{no_part}
 use Rattle.rx_seq.specs.Legal.{entries_of}
-use Rattle.rx_set.specs.System.{System, ObjectRow, part_of_row, parts_of, numbers, task_at}
+use Rattle.rx_set.specs.System.{System, part_of_row, parts_of, numbers, task_at}
 use Rattle.rx_set.specs.Valid.{IsValid}
 use Rattle.rx_shape.specs.Layout.{Layout, IsLayout}
 use Rattle.rx_port.specs.declared.views.Known.{Known}
 use Rattle.rx_port.specs.Lawful.{IsOlder}
-use Rattle.rx_table.specs.Boards.{Board, Sitting, IsSeatOf, AreSeats, AreNew, new_seat}
+use Rattle.rx_table.specs.Tables.{SharedTable, SeatView, IsSeatOf, AreSeats, AreNew, new_seat}
 use Rattle.rx_table.specs.Closings.{HasSeen}
 use Rattle.rx_set.specs.Operations.{asked_of, script_of}
+use Rattle.rx_set.proofs.Counts.{length-numbers}
+use Rattle.rx_set.proofs.Readings.{parts_valid}
 use Rattle.rx_lanes.specs.declared.answers.Answer.{Answer}
 use Rattle.rx_lanes.specs.declared.lanes.Lane.{Lane}
 use Rattle.rx_lanes.specs.Scripts.{is_of, calls_to, lane_script}
@@ -26,23 +27,14 @@ use Rattle.rx_lanes.specs.Lanes.{HasSpent, HasMade, HasRun, IsReady, IsNew, numb
 use Rattle.rx_lanes.specs.Runs.{entries_by, IsKept, answers_at, items_of, AreKept, table_of}
 use Rattle.rx_lanes.proofs.Parts.{calls_yes, calls_no}
 use Rattle.rx_lanes.proofs.Bodies.{script_count, script_few}
-use Rattle.rx_lanes.proofs.Making.{same_known, spent_stays}
+use Rattle.rx_lanes.proofs.Making.{spent_stays}
 use Rattle.rx_lanes.proofs.Plain.{calls_of_length, tag_few, all_below, below_none, below_more, below_all, count_below}
-
-no_object : ObjectRow
-no_object = record { name = []; part = no_part }
-
-each_part : (system : System) → IsValid system → All IsPart (parts_of system)
-each_part system valid = λ k d within.
-    let inside : k < length system.objects = omega (arith, length-map system.objects part_of_row) in
-    let row = valid.objects k (get_or system.objects k no_object) (slice_get-get_or system.objects k no_object inside) in
-    subst IsPart (sym (get_or_default (parts_of system) k d no_part within ∙ get_or-map part_of_row system.objects k no_object no_part inside)) row.part
 
 -- the table's layout is within the limits
 pub layout_fits : (system : System) (parts : List Part) (seats : ℕ) → IsValid system → parts ≡ parts_of system → 1 ≤ seats → seats ≤ 16 → IsLayout (record { parts = parts; seats = seats; first = 0 })
 layout_fits system parts seats valid same one few = record {
   few = omega (arith, ap length same, length-map system.objects part_of_row, valid.few_objects);
-  parts = subst (All IsPart) (sym same) (each_part system valid);
+  parts = subst (All IsPart) (sym same) (parts_valid system valid);
   one = one;
   seats = omega arith;
   tag = omega arith;
@@ -59,15 +51,11 @@ moved {X} f done left rest all x y full is after same so_far =
     ∙ ap (λ (z : X). map f done ++ (z ∷ rest)) same ∙ ap (λ (xs : List X). map f done ++ xs) (sym (first_off left rest x full is after)) ∙ so_far
 
 -- numbers
-pub numbers_many : (n : ℕ) → length (numbers n) ≡ n
-numbers_many zero = refl
-numbers_many (suc n) = omega (arith, length-append (numbers n) (n ∷ []), numbers_many n)
-
 pub numbers_at : (n k d : ℕ) → k < n → get_or (numbers n) k d ≡ k
 numbers_at zero k d h = absurd (omega arith)
 numbers_at (suc n) k d h = elim (dec_le (suc k) n) [
-  | yes early ↦ get_or_append_left (numbers n) (n ∷ []) d k (omega (arith, numbers_many n)) ∙ numbers_at n k d early
-  | no late ↦ let same : n ≡ k = omega arith in get_or_push (numbers n) n d k (numbers_many n ∙ same) ∙ same
+  | yes early ↦ get_or_append_left (numbers n) (n ∷ []) d k (omega (arith, length-numbers n)) ∙ numbers_at n k d early
+  | no late ↦ let same : n ≡ k = omega arith in get_or_push (numbers n) n d k (length-numbers n ∙ same) ∙ same
 ]
 
 pub number_more : {Y : Type 0} (f : Y → ℕ) (done more : List Y) (y : Y) → more ≡ (done ++ y ∷ []) → map f done ≡ numbers (length done) → f y ≡ length done → map f more ≡ numbers (length more)
@@ -103,52 +91,52 @@ all_at P xs k x all at = let here = place_of xs k x at in subst P here.1 (all k 
 number_at : (n : ℕ) (lanes : List Lane) (k : ℕ) (lane : Lane) → map number_of lanes ≡ numbers n → get_elem? lanes k ≡ some lane → (number_of lane ≡ k) × (k < n)
 number_at n lanes k lane are at =
     let here = place_of lanes k lane at in
-    let many : length lanes ≡ n = sym (length-map lanes number_of) ∙ ap length are ∙ numbers_many n in
+    let many : length lanes ≡ n = sym (length-map lanes number_of) ∙ ap length are ∙ length-numbers n in
     let below : k < n = omega (arith, here.0, many) in
     (ap number_of (sym here.1) ∙ sym (get_or-map number_of lanes k lane 0 here.0) ∙ ap (λ (xs : List ℕ). get_or xs k 0) are ∙ numbers_at n k 0 below, below)
 
 pub lanes_many : (n : ℕ) (lanes : List Lane) → map number_of lanes ≡ numbers n → length lanes ≡ n
-lanes_many n lanes are = sym (length-map lanes number_of) ∙ ap length are ∙ numbers_many n
+lanes_many n lanes are = sym (length-map lanes number_of) ∙ ap length are ∙ length-numbers n
 
 -- lanes that are ready
-nothing_made : (board : Board) (n : ℕ) (lane : Lane) → lane.seat ≡ new_seat board n lane.number → lane.answers.items ≡ [] → HasMade board [] lane
-nothing_made board n lane is none = record {
-  number = ap (λ (s : Sitting). s.view.number) is;
+nothing_made : (shared : SharedTable) (n : ℕ) (lane : Lane) → lane.seat ≡ new_seat shared n lane.number → lane.answers.items ≡ [] → HasMade shared [] lane
+nothing_made shared n lane is none = record {
+  number = ap (λ (s : SeatView). s.view.number) is;
   known = Rattle.rx_table.specs.Rule.knows_nothing;
-  is = ap (λ (s : Sitting). s.view.known) is;
+  is = ap (λ (s : SeatView). s.view.known) is;
   answers = sym none;
   few = omega arith;
   all = inl refl;
 }
 
-pub lanes_ready : (board : Board) (system : System) (jobs workers : ℕ) (seats : List Sitting) (lanes : List Lane) → AreSeats board seats → AreNew board seats → map seat_of lanes ≡ seats → map number_of lanes ≡ numbers (length seats) → All (IsNew system jobs workers) lanes
-    → All (IsReady board system jobs workers) lanes
-lanes_ready board system jobs workers seats lanes are fresh same numbered new = λ k d inside.
+pub lanes_ready : (shared : SharedTable) (system : System) (jobs workers : ℕ) (seats : List SeatView) (lanes : List Lane) → AreSeats shared seats → AreNew shared seats → map seat_of lanes ≡ seats → map number_of lanes ≡ numbers (length seats) → All (IsNew system jobs workers) lanes
+    → All (IsReady shared system jobs workers) lanes
+lanes_ready shared system jobs workers seats lanes are fresh same numbered new = λ k d inside.
     let found = has_at lanes k inside in
     let lane = found.0 in
     let number = number_at (length seats) lanes k lane numbered found.1 in
-    let seat : get_elem? seats k ≡ some (seat_of lane) = subst (λ (xs : List Sitting). get_elem? xs k ≡ some (seat_of lane)) same (map_at seat_of lanes k lane found.1) in
+    let seat : get_elem? seats k ≡ some (seat_of lane) = subst (λ (xs : List SeatView). get_elem? xs k ≡ some (seat_of lane)) same (map_at seat_of lanes k lane found.1) in
     let h = all_at (IsNew system jobs workers) lanes k lane new found.1 in
     let few = h.few in
     let made = h.made in
     let none : length lane.answers.items ≡ 0 = ap length h.none in
-    let is : lane.seat ≡ new_seat board (length seats) lane.number = fresh k (seat_of lane) seat ∙ ap (λ (n : ℕ). new_seat board (length seats) n) (sym number.0) in
+    let is : lane.seat ≡ new_seat shared (length seats) lane.number = fresh k (seat_of lane) seat ∙ ap (λ (n : ℕ). new_seat shared (length seats) n) (sym number.0) in
     let here = place_of lanes k lane found.1 in
-    subst (IsReady board system jobs workers) (sym here.1 ∙ get_or_default lanes k lane d here.0) (record {
+    subst (IsReady shared system jobs workers) (sym here.1 ∙ get_or_default lanes k lane d here.0) (record {
       ours = (are.each k (seat_of lane) seat).0;
       room = record { short = omega (arith, none); room = omega (arith, made, h.room); few = omega (arith, few, made) };
-      none = nothing_made board (length seats) lane is h.none;
+      none = nothing_made shared (length seats) lane is h.none;
     })
 
 -- the seats of lanes are those of the table
-pub lanes_seats : (board : Board) (system : System) (jobs workers : ℕ) (lanes : List Lane) (seats : List Sitting) → board.layout.seats ≡ workers → seats ≡ map seat_of lanes → map number_of lanes ≡ numbers workers → All (HasRun board system jobs workers) lanes → AreSeats board seats
-lanes_seats board system jobs workers lanes seats count is numbered run = record {
-  many = ap length is ∙ length-map lanes seat_of ∙ sym (length-map lanes number_of) ∙ ap length numbered ∙ numbers_many workers ∙ sym count;
+pub lanes_seats : (shared : SharedTable) (system : System) (jobs workers : ℕ) (lanes : List Lane) (seats : List SeatView) → shared.layout.seats ≡ workers → seats ≡ map seat_of lanes → map number_of lanes ≡ numbers workers → All (HasRun shared system jobs workers) lanes → AreSeats shared seats
+lanes_seats shared system jobs workers lanes seats count is numbered run = record {
+  many = ap length is ∙ length-map lanes seat_of ∙ sym (length-map lanes number_of) ∙ ap length numbered ∙ length-numbers workers ∙ sym count;
   each = λ k seat at.
-      let found = from_map seat_of lanes k seat (subst (λ (xs : List Sitting). get_elem? xs k ≡ some seat) is at) in
-      let h = all_at (HasRun board system jobs workers) lanes k found.0 run found.1 in
+      let found = from_map seat_of lanes k seat (subst (λ (xs : List SeatView). get_elem? xs k ≡ some seat) is at) in
+      let h = all_at (HasRun shared system jobs workers) lanes k found.0 run found.1 in
       let number = number_at workers lanes k found.0 numbered found.1 in
-      (subst (IsSeatOf board) found.2 h.ours, ap (λ (s : Sitting). s.view.number) (sym found.2) ∙ h.made.number ∙ number.0);
+      (subst (IsSeatOf shared) found.2 h.ours, ap (λ (s : SeatView). s.view.number) (sym found.2) ∙ h.made.number ∙ number.0);
 }
 
 -- how many operations a lane makes
@@ -170,7 +158,7 @@ module _ (system : System) (jobs workers lane : ℕ) (valid : IsValid system) (f
         | inr y ↦ omega (arith, calls_no system jobs workers lane n y, before)
       ])
 
-  pub script_bound : length (lane_script system jobs workers lane) ≤ 409600
+  pub script_bound : length (lane_script system jobs workers lane) ≤ 819200
   script_bound = let all = calls_few (length system.tasks) (omega arith) in let tasks = valid.some_tasks.1 in omega (arith, all, tasks)
 
 -- what a seat's entries are in the last history
@@ -179,10 +167,10 @@ pub record IsSeen (system : System) (jobs workers : ℕ) (layout : Layout) (hist
   pub few : length (entries_of lane history) ≤ length (lane_script system jobs workers lane)
   pub all : (map asked_of (entries_by lane history) ≡ lane_script system jobs workers lane) ⊎ HasSpent layout history
 
-seen_by : (board : Board) (system : System) (jobs workers : ℕ) (history : List Entry) (k : ℕ) (lane : Lane) → number_of lane ≡ k → HasRun board system jobs workers lane → HasSeen history lane.seat.view → IsSeen system jobs workers board.layout history k lane.answers.items
-seen_by board system jobs workers history k lane number run seen =
+seen_by : (shared : SharedTable) (system : System) (jobs workers : ℕ) (history : List Entry) (k : ℕ) (lane : Lane) → number_of lane ≡ k → HasRun shared system jobs workers lane → HasSeen history lane.seat.view → IsSeen system jobs workers shared.layout history k lane.answers.items
+seen_by shared system jobs workers history k lane number run seen =
     let made = run.made in
-    let known : seen.known ≡ made.known = same_known lane.seat.view seen.known made.known seen.is made.is in
+    let known : seen.known ≡ made.known = same_Some seen.known made.known (sym seen.is ∙ made.is) in
     let mine : made.known.mine ≡ entries_of k history = ap (λ (x : Known). x.mine) (sym known) ∙ seen.mine ∙ ap (λ (n : ℕ). entries_of n history) (made.number ∙ number) in
     let script : lane_script system jobs workers lane.number ≡ lane_script system jobs workers k = ap (lane_script system jobs workers) number in
     let few = made.few in
@@ -193,20 +181,20 @@ seen_by board system jobs workers history k lane number run seen =
         | inl same ↦ inl (ap (λ (xs : List Entry). map asked_of (reverse xs)) (sym mine) ∙ same ∙ script)
         | inr spent ↦
             let older : IsOlder made.known.seen history = subst (λ (x : Known). IsOlder x.seen history) known seen.seen in
-            inr (subst (HasSpent board.layout) (sym older.1) (spent_stays board.layout older.0 made.known.seen spent))
+            inr (subst (HasSpent shared.layout) (sym older.1) (spent_stays shared.layout older.0 made.known.seen spent))
       ];
     }
 
 -- the last history is short, so that no object has reached its last tag
 module _ (system : System) (jobs workers : ℕ) (layout : Layout) (history : List Entry) (valid : IsValid system) (jobs_few : jobs ≤ 200) (few : workers ≤ 16) (first : layout.first ≡ 0)
     (all : ℕ → List Answer) (seen : (lane : ℕ) → lane < workers → IsSeen system jobs workers layout history lane (all lane)) (callers : (seat : ℕ) → workers ≤ seat → entries_of seat history ≡ []) where
-  counted : (n : ℕ) → n ≤ workers → count_below n history ≤ n * 409600
+  counted : (n : ℕ) → n ≤ workers → count_below n history ≤ n * 819200
   counted zero h = omega (arith, below_none history)
   counted (suc n) h =
       let next : suc n ≡ n + 1 = omega arith in
       let before = counted n (omega arith) in
       let here = (seen n (omega arith)).few in
-      subst (λ (k : ℕ). count_below k history ≤ k * 409600) (sym next) (omega (arith, below_more n history, calls_of_length n history, here, script_bound system jobs workers n valid jobs_few, before))
+      subst (λ (k : ℕ). count_below k history ≤ k * 819200) (sym next) (omega (arith, below_more n history, calls_of_length n history, here, script_bound system jobs workers n valid jobs_few, before))
 
   never_spent : HasSpent layout history → ⊥
   never_spent h =
@@ -234,17 +222,17 @@ answers_is answers lanes k lane is at =
     ∙ get_or-map (λ (v : Vec Answer Global). v.items) (map answers_of lanes) k (answers_of lane) [] inside
     ∙ ap (λ (v : Vec Answer Global). v.items) (get_or-map answers_of lanes k lane (answers_of lane) here.0 ∙ ap answers_of here.1)
 
-pub all_kept : (board : Board) (system : System) (jobs workers : ℕ) (history : List Entry) (lanes : List Lane) (seats : List Sitting) (answers : List (Vec Answer Global)) → IsValid system → jobs ≤ 200 → workers ≤ 16 → board.layout ≡ table_of system workers
-    → seats ≡ map seat_of lanes → answers ≡ map answers_of lanes → map number_of lanes ≡ numbers workers → All (HasRun board system jobs workers) lanes
-    → ((number : ℕ) (seat : Sitting) → get_elem? seats number ≡ some seat → HasSeen history seat.view) → ((seat : ℕ) → workers ≤ seat → entries_of seat history ≡ []) → AreKept system jobs workers history (items_of answers)
-all_kept board system jobs workers history lanes seats answers valid jobs_few few is seats_are answers_are numbered run seen callers =
-    let many : length lanes ≡ workers = sym (length-map lanes number_of) ∙ ap length numbered ∙ numbers_many workers in
-    kept system jobs workers board.layout history valid jobs_few few (ap (λ (l : Layout). l.first) is) (answers_at (items_of answers))
+pub all_kept : (shared : SharedTable) (system : System) (jobs workers : ℕ) (history : List Entry) (lanes : List Lane) (seats : List SeatView) (answers : List (Vec Answer Global)) → IsValid system → jobs ≤ 200 → workers ≤ 16 → shared.layout ≡ table_of system workers
+    → seats ≡ map seat_of lanes → answers ≡ map answers_of lanes → map number_of lanes ≡ numbers workers → All (HasRun shared system jobs workers) lanes
+    → ((number : ℕ) (seat : SeatView) → get_elem? seats number ≡ some seat → HasSeen history seat.view) → ((seat : ℕ) → workers ≤ seat → entries_of seat history ≡ []) → AreKept system jobs workers history (items_of answers)
+all_kept shared system jobs workers history lanes seats answers valid jobs_few few is seats_are answers_are numbered run seen callers =
+    let many : length lanes ≡ workers = sym (length-map lanes number_of) ∙ ap length numbered ∙ length-numbers workers in
+    kept system jobs workers shared.layout history valid jobs_few few (ap (λ (l : Layout). l.first) is) (answers_at (items_of answers))
     (λ k below.
     let found = has_at lanes k (omega (arith, many)) in
     let lane = found.0 in
     let number = number_at workers lanes k lane numbered found.1 in
-    let seat : get_elem? seats k ≡ some (seat_of lane) = subst (λ (xs : List Sitting). get_elem? xs k ≡ some (seat_of lane)) (sym seats_are) (map_at seat_of lanes k lane found.1) in
-    subst (IsSeen system jobs workers board.layout history k) (sym (answers_is answers lanes k lane answers_are found.1))
-    (seen_by board system jobs workers history k lane number.0 (all_at (HasRun board system jobs workers) lanes k lane run found.1) (seen k (seat_of lane) seat)))
+    let seat : get_elem? seats k ≡ some (seat_of lane) = subst (λ (xs : List SeatView). get_elem? xs k ≡ some (seat_of lane)) (sym seats_are) (map_at seat_of lanes k lane found.1) in
+    subst (IsSeen system jobs workers shared.layout history k) (sym (answers_is answers lanes k lane answers_are found.1))
+    (seen_by shared system jobs workers history k lane number.0 (all_at (HasRun shared system jobs workers) lanes k lane run found.1) (seen k (seat_of lane) seat)))
     callers

@@ -5,7 +5,7 @@ ghost use Rattle.rx_lanes.specs.Scripts.{lane_script};
 ghost use Rattle.rx_seq.specs.History.{part_at};
 ghost use Rattle.rx_seq.specs.Table.{fits_part};
 ghost use Rattle.rx_set.specs.System.{parts_of};
-ghost use Rattle.rx_table.specs.Boards.{IsSeatOf};
+ghost use Rattle.rx_table.specs.Tables.{IsSeatOf};
 ghost use Rattle.std.specs.Prelude.{◌≡◌, ◌<◌, ◌≤◌, true, [], ◌∷◌, length, IfOk};
 
 use crate::answers::Answer;

@@ -2,7 +2,7 @@
 ghost use Rattle.rx_lanes.specs.Lanes.{HasRun, IsNew, IsReady, answers_of, number_of, seat_of};
 ghost use Rattle.rx_lanes.specs.Runs.{AreKept, items_of, table_of};
 ghost use Rattle.rx_set.specs.System.{numbers};
-ghost use Rattle.rx_table.specs.Boards.{AreNew, AreSeats};
+ghost use Rattle.rx_table.specs.Tables.{AreNew, AreSeats};
 ghost use Rattle.rx_table.specs.Closings.{HasEnded};
 ghost use Rattle.std.specs.List.{All};
 ghost use Rattle.std.specs.Prelude.{◌≡◌, ◌≤◌, [], IfOk, length, map, vec_capacity};

@@ -59,7 +59,7 @@ fn push_event(set: &TaskSet, event: &Event, line: &mut Line)
 ///
 /// - `N miss T J`, `N release T J` and `N finish T J`,
 /// - `N preempt T J by T J`, the preempted job first,
-/// - `N reply T J I C -> Y tag G`: the item and what it asks for, the reply, and the object's new tag,
+/// - `N reply T J I C -> Y tag G`: the item and what it asks for, the reply, and the object's tag after it,
 /// - `N retry T J I O tag E now F`: the item and its object, the tag that was expected, and the one that was found.
 ///
 /// It can be asked of every event: the text of a task or an item that the set has not is empty, and so is the object of an

@@ -8,11 +8,12 @@ use Rattle.rx_port.specs.Plain.{Whole}
 use Rattle.rx_ledger.specs.declared.events.Event.{Event}
 use Rattle.rx_ledger.specs.declared.events.Event.TheVariants.{Miss}
 use Rattle.rx_ledger.specs.Counts.{is_reply, is_retry}
-use Rattle.rx_tick.specs.Schedule.{slots}
-use Rattle.rx_tick.specs.Events.{jobs_where, is_missed, misses, events}
+use Rattle.rx_slots.specs.Schedule.{slots}
+use Rattle.rx_slots.specs.Events.{jobs_where, is_missed, misses, events}
 use Rattle.rx_tick.specs.Banks.{IsBankOf}
 use Rattle.rx_tick.specs.Executive.{Moment, moment}
-use Rattle.rx_tick.specs.Sums.{decided_slots, AreSums}
+use Rattle.rx_tick.specs.Sums.{AreSums}
+use Rattle.rx_slots.specs.AttemptSlots.{decided_slots}
 use Rattle.rx_top.specs.Report.{run_totals}
 use Rattle.rx_top.specs.Leaves.{AreReported, IsBankLeft}
 

@@ -7,9 +7,9 @@ use Rattle.rx_ledger.specs.declared.events.Event.{Event}
 use Rattle.rx_ledger.specs.declared.events.Event.TheVariants.{Miss, Release, Preempt, Reply, Retry, Finish}
 use Rattle.rx_ledger.specs.declared.totals.Totals.{Totals}
 use Rattle.rx_ledger.specs.Counts.{AreBelow, counted, with_slot}
-use Rattle.rx_tick.specs.Schedule.{Slot, slots, slot_at, job_in}
-use Rattle.rx_tick.specs.Events.{events, events_of, misses}
-use Rattle.rx_tick.specs.Counts.{totals_of}
+use Rattle.rx_slots.specs.Schedule.{Slot, slots, slot_at, job_in}
+use Rattle.rx_slots.specs.Events.{events, events_of, misses}
+use Rattle.rx_slots.specs.Counts.{totals_of}
 use Rattle.rx_top.specs.Report.{run_totals}
 use Rattle.rx_top.specs.Runs.{AreCounts}
 

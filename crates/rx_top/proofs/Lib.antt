@@ -1,11 +1,11 @@
-pub mod Counting
-pub mod Banks
-pub mod NoMisses
-pub mod Lines
-pub mod Sharing
-pub mod Noting
-pub mod Writes
-pub mod NewBanks
-pub mod Endings
-pub mod Determinations
-pub mod Outcomes
+mod Counting
+mod Banks
+mod NoMisses
+mod Lines
+mod Sharing
+mod Noting
+mod Writes
+mod NewBanks
+mod Endings
+mod Determinations
+mod Outcomes

@@ -4,8 +4,8 @@ use Rattle.std.proofs.lemmas.Grind.{take_at_read}
 use Rattle.std.proofs.lemmas.List.{map-append}
 use Rattle.rx_set.specs.System.{System, numbers}
 use Rattle.rx_ledger.specs.declared.events.Event.{Event}
-use Rattle.rx_tick.specs.Schedule.{slots, slot_at}
-use Rattle.rx_tick.specs.Events.{events, events_of, misses}
+use Rattle.rx_slots.specs.Schedule.{slots, slot_at}
+use Rattle.rx_slots.specs.Events.{events, events_of, misses}
 use Rattle.rx_report.specs.Lines.{event_line, total_line}
 use Rattle.rx_top.specs.Report.{schedule_lines, object_lines, run_totals}
 use Rattle.rx_top.specs.Runs.{lines_of, end_lines}

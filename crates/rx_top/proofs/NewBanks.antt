@@ -10,25 +10,17 @@ use Rattle.rx_seq.specs.Table.{IsPart}
 use Rattle.rx_seq.specs.History.{no_part}
 use Rattle.rx_set.specs.System.{System, ObjectRow, part_of_row, parts_of}
 use Rattle.rx_set.specs.Valid.{IsValid}
+use Rattle.rx_set.proofs.Readings.{parts_valid}
 use Rattle.rx_shape.specs.Layout.{Layout, IsLayout}
 use Rattle.rx_port.specs.Lawful.{Lawful}
 use Rattle.rx_port.specs.Plain.{Whole}
 use Rattle.rx_tick.specs.Banks.{IsBankOf}
 
-no_object : ObjectRow
-no_object = record { name = []; part = no_part }
-
-each_part : (system : System) → IsValid system → All IsPart (parts_of system)
-each_part system valid = λ k d within.
-    let inside : k < length system.objects = omega (arith, length-map system.objects part_of_row) in
-    let row = valid.objects k (get_or system.objects k no_object) (slice_get-get_or system.objects k no_object inside) in
-    subst IsPart (sym (get_or_default (parts_of system) k d no_part within ∙ get_or-map part_of_row system.objects k no_object no_part inside)) row.part
-
 -- its layout is within the limits
 pub layout_fits : (system : System) (parts : List Part) (seats : ℕ) → IsValid system → parts ≡ parts_of system → seats ≡ length system.tasks → IsLayout (record { parts = parts; seats = seats; first = 0 })
 layout_fits system parts seats valid same tasks = record {
   few = omega (arith, ap length same, length-map system.objects part_of_row, valid.few_objects);
-  parts = subst (All IsPart) (sym same) (each_part system valid);
+  parts = subst (All IsPart) (sym same) (parts_valid system valid);
   one = omega (arith, valid.some_tasks.0);
   seats = omega (arith, valid.some_tasks.1);
   tag = omega arith;

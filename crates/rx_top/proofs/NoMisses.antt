@@ -8,9 +8,9 @@ use Rattle.rx_ledger.specs.declared.events.Event.{Event}
 use Rattle.rx_ledger.specs.declared.events.Event.TheVariants.{Miss}
 use Rattle.rx_ledger.specs.Counts.{is_miss}
 use Rattle.rx_ledger.specs.Intervals.{is_retry_in, is_preemption_in, is_release_in, retries, preemptions, releases as releases_in}
-use Rattle.rx_tick.specs.Schedule.{slots, slot_at}
-use Rattle.rx_tick.specs.Events.{misses, is_missed, jobs_where, events_of, events}
-use Rattle.rx_tick.proofs.NoMisses.{slot_misses}
+use Rattle.rx_slots.specs.Schedule.{slots, slot_at}
+use Rattle.rx_slots.specs.Events.{misses, is_missed, jobs_where, events_of, events}
+use Rattle.rx_slots.proofs.NoMisses.{slot_misses}
 use Rattle.rx_top.specs.Report.{reported_events, reported_misses}
 
 count_append : (p : Event → Bool) (es more : List Event) → count_by p (es ++ more) ≡ count_by p es + count_by p more

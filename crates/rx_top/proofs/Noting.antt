@@ -12,8 +12,8 @@ use Rattle.rx_ledger.specs.declared.totals.Totals.{Totals}
 use Rattle.rx_ledger.specs.Counts.{counted, with_slot}
 use Rattle.rx_ledger.specs.Ledgers.{time_of, MayFollow}
 use Rattle.rx_port.specs.Plain.{Whole}
-use Rattle.rx_tick.specs.Schedule.{slots, slot_at, job_in}
-use Rattle.rx_tick.specs.Events.{events, events_of, misses}
+use Rattle.rx_slots.specs.Schedule.{slots, slot_at, job_in}
+use Rattle.rx_slots.specs.Events.{events, events_of, misses}
 use Rattle.rx_tick.specs.Banks.{IsBankOf}
 use Rattle.rx_tick.specs.Executive.{Moment, moment}
 use Rattle.rx_top.specs.Runs.{AreNoted, IsRun}

@@ -12,10 +12,10 @@ use Rattle.rx_set.specs.Valid.{IsValid, KeepsCosts}
 use Rattle.rx_set.specs.Admission.{EachIsServed, EachSpanFits, due_need, unserved}
 use Rattle.rx_set.specs.Generator.{generated}
 use Rattle.rx_ledger.specs.Intervals.{any_job, retries, preemptions, releases}
-use Rattle.rx_tick.specs.Laws.{FollowsBodies}
-use Rattle.rx_tick.specs.Schedule.{history, slots}
-use Rattle.rx_tick.specs.Events.{events, misses}
-use Rattle.rx_tick.specs.Charges.{of_rank_to, of_rank_below}
+use Rattle.rx_slots.specs.Laws.{FollowsBodies}
+use Rattle.rx_slots.specs.Schedule.{history, slots}
+use Rattle.rx_slots.specs.Events.{events, misses}
+use Rattle.rx_slots.specs.Charges.{of_rank_to, of_rank_below}
 use Rattle.rx_top.proofs.NoMisses.{none_reported, preemptions_reported, releases_reported, retries_reported}
 use Rattle.rx_top.specs.Report.{reported_misses}
 use Rattle.rx_fixed.specs.declared.verdicts.Verdict.{Verdict}

@@ -4,7 +4,7 @@ use Rattle.rx_seq.specs.declared.entries.Entry.{Entry}
 use Rattle.rx_set.specs.System.{System}
 use Rattle.rx_port.specs.Plain.{Whole}
 use Rattle.rx_tick.specs.Banks.{IsBankOf}
-use Rattle.rx_tick.specs.Schedule.{slots}
+use Rattle.rx_slots.specs.Schedule.{slots}
 use Rattle.rx_tick.specs.Sums.{AreSums}
 use Rattle.rx_top.specs.Report.{run_totals}
 use Rattle.rx_port.specs.declared.views.Counts.{Counts}

@@ -33,9 +33,9 @@ use Rattle.rx_top.specs.Stops.{ending_of}
 use Rattle.rx_ledger.specs.Intervals.{any_job, retries, preemptions, releases}
 use Rattle.rx_seq.specs.declared.entries.Entry.{Entry}
 use Rattle.rx_seq.specs.Legal.{IsLegal}
-use Rattle.rx_tick.specs.Charges.{of_rank_to, of_rank_below}
-use Rattle.rx_tick.specs.Laws.{FollowsBodies}
-use Rattle.rx_tick.specs.Schedule.{history, slots}
+use Rattle.rx_slots.specs.Charges.{of_rank_to, of_rank_below}
+use Rattle.rx_slots.specs.Laws.{FollowsBodies}
+use Rattle.rx_slots.specs.Schedule.{history, slots}
 use Rattle.rx_top.specs.Tests.{admit_report, test_line}
 use Rattle.rx_top.specs.Drawn.{drawn_report, drawn_ticks}
 use Rattle.rx_top.specs.Report.{report, reported_events, reported_misses}

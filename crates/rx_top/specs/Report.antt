@@ -5,9 +5,9 @@ use Rattle.rx_seq.specs.History.{replay, tag_of}
 use Rattle.rx_set.specs.System.{System, parts_of, numbers}
 use Rattle.rx_ledger.specs.declared.events.Event.{Event}
 use Rattle.rx_ledger.specs.declared.totals.Totals.{Totals}
-use Rattle.rx_tick.specs.Schedule.{history, slots}
-use Rattle.rx_tick.specs.Events.{events, misses}
-use Rattle.rx_tick.specs.Counts.{totals_of}
+use Rattle.rx_slots.specs.Schedule.{history, slots}
+use Rattle.rx_slots.specs.Events.{events, misses}
+use Rattle.rx_slots.specs.Counts.{totals_of}
 use Rattle.rx_report.specs.Lines.{event_line, object_line, total_line}
 use Rattle.rx_top.specs.Tests.{test_line}
 

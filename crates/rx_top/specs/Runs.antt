@@ -6,9 +6,9 @@ use Rattle.rx_ledger.specs.declared.events.Event.{Event}
 use Rattle.rx_ledger.specs.declared.totals.Totals.{Totals}
 use Rattle.rx_ledger.specs.Counts.{AreBelow}
 use Rattle.rx_ledger.specs.Ledgers.{time_of}
-use Rattle.rx_tick.specs.Schedule.{slots}
-use Rattle.rx_tick.specs.Events.{events, misses}
-use Rattle.rx_tick.specs.Counts.{totals_of}
+use Rattle.rx_slots.specs.Schedule.{slots}
+use Rattle.rx_slots.specs.Events.{events, misses}
+use Rattle.rx_slots.specs.Counts.{totals_of}
 use Rattle.rx_report.specs.Lines.{event_line, total_line}
 use Rattle.rx_port.specs.Plain.{Whole}
 use Rattle.rx_tick.specs.Banks.{IsBankOf}

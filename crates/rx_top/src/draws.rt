@@ -24,7 +24,7 @@ use rx_report::{Line, window_line};
 use rx_seq::NoMemory;
 use rx_set::{TaskSet, generate};
 use rx_tick::laws::{events_have_their_time, replies_and_retries_are_told};
-use rx_tick::{Executive, Tick};
+use rx_tick::{Executive, MOST_EVENTS, Tick};
 use std::alloc::Global;
 
 // How many ticks an interval has, and how many intervals there are.
@@ -39,7 +39,7 @@ fn note_events(
     ledger: &mut Ledger,
     totals: &mut Totals,
 ) -> Result<(), NoMemory>
-    requires few { length events.now ≤ 131 }
+    requires few { length events.now ≤ MOST_EVENTS }
     requires small { AreBelow (2 ^ 62) totals.old }
     requires times { All (λ event. time_of event ≡ now) events.now }
     requires earlier { All (λ event. time_of event ≤ now) ledger.old }

@@ -7,8 +7,8 @@ ghost use Rattle.rx_ledger.specs.Counts.{AreBelow, counted, zeros};
 ghost use Rattle.rx_port.specs.Seats.{no_counts};
 ghost use Rattle.rx_tick.specs.Banks.{IsBankOf};
 ghost use Rattle.rx_tick.specs.Executive.{moment};
-ghost use Rattle.rx_tick.specs.Schedule.{slots, slot_at};
-ghost use Rattle.rx_tick.specs.Events.{events, events_of, misses};
+ghost use Rattle.rx_slots.specs.Schedule.{slots, slot_at};
+ghost use Rattle.rx_slots.specs.Events.{events, events_of, misses};
 ghost use Rattle.rx_report.specs.Lines.{total_line};
 ghost use Rattle.rx_top.specs.declared.left.Left.TheVariants.{Nothing};
 ghost use Rattle.rx_top.specs.Report.{report, schedule_lines, run_totals, reported_misses};
@@ -29,7 +29,7 @@ use rx_seq::NoMemory;
 use rx_set::TaskSet;
 use rx_shape::Layout;
 use rx_tick::laws::replies_and_retries_are_told;
-use rx_tick::{Executive, Tick};
+use rx_tick::{Executive, MOST_EVENTS, Tick};
 use std::alloc::Global;
 
 /// Counts events, and hands in the line of each.
@@ -41,7 +41,7 @@ fn put_events<K: Sink>(
     sink: &mut K,
 ) -> Result<(), Failed>
     requires up { MayBeCalled (K.tells sink.old).failures }
-    requires few { length events.now ≤ 131 }
+    requires few { length events.now ≤ MOST_EVENTS }
     requires small { AreBelow (2 ^ 62) totals.old }
     ensures puts { Puts (K.tells sink.old) (K.tells sink.new) result (lines_of set.now events.now) }
     ensures totals { OnOk result (totals.new ≡ fold counted totals.old events.now) }
@@ -130,7 +130,7 @@ fn write_end<K: Sink>(
     requires up { MayBeCalled (K.tells sink.old).failures }
     requires bank { IsBankOf set.now (slots set.now ticks) bank.now }
     requires ticks { ticks ≤ 1000000 }
-    requires few { length late.now ≤ 131 }
+    requires few { length late.now ≤ MOST_EVENTS }
     requires late { late.now ≡ misses set.now (slots set.now ticks) }
     requires counts { AreCounts set.now ticks totals.old }
     ensures puts { Puts (K.tells sink.old) (K.tells sink.new) result (end_lines set.now ticks) }

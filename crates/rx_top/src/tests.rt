@@ -4,6 +4,7 @@ ghost use Rattle.rx_io.specs.States.{MayBeCalled};
 
 use super::*;
 use crate::runs::new_executive;
+use rx_edf::{EdfVerdict, test as test_spans};
 use rx_fixed::{Verdict, test};
 use rx_io::{InSource, MemorySink, MemorySource, OutSink, Sink, Source};
 use rx_lanes::{Gate, NoGate};
@@ -600,19 +601,26 @@ fn count_misses(alloc: Global, set: &TaskSet, ticks: u64) -> Result<u64, Fail> {
     Ok(misses.saturating_add(tick.events.len() as u64))
 }
 
+// Whether the test of a set's policy admits it.
+fn is_admitted(set: &TaskSet) -> bool {
+    match set.policy() {
+        Policy::Edf => test_spans(set) == EdfVerdict::Yes,
+        _ => test(set) == Verdict::Yes,
+    }
+}
+
 #[test]
-fn served_sets_are_never_late(rt: HostRuntime) -> Result<(), Fail> {
+fn admitted_sets_are_never_late(rt: HostRuntime) -> Result<(), Fail> {
     let alloc = rt.alloc();
-    let mut served: u64 = 0;
+    let mut admitted: u64 = 0;
     for number in 0..100 {
         let set = generate(alloc, number).map_err(|_| "no memory")?;
-        if set.policy() == Policy::Edf || test(&set) != Verdict::Yes {
-            continue;
+        if is_admitted(&set) {
+            admitted = admitted.saturating_add(1);
+            assert_eq!(rt; count_misses(alloc, &set, 20_000)?, 0);
         }
-        served = served.saturating_add(1);
-        assert_eq!(rt; count_misses(alloc, &set, 20_000)?, 0);
     }
-    // As many as another implementation of the test admits.
-    assert_eq!(rt; served, 25);
+    // As many as another implementation of the generator and of the tests admits.
+    assert_eq!(rt; admitted, 56);
     Ok(())
 }

@@ -1,7 +1,7 @@
 use Rattle.std.proofs.Common.{◌≡◌, ◌∙◌, ap, arith}
 use Rattle.rx_ledger.specs.Counts.{with_slot}
-use Rattle.rx_tick.specs.Events.{events_of}
-use Rattle.rx_tick.specs.Schedule.{slots, slot_at}
+use Rattle.rx_slots.specs.Events.{events_of}
+use Rattle.rx_slots.specs.Schedule.{slots, slot_at}
 use Rattle.rx_top.proofs.Noting.{noted_next, on_ok_both, times_same}
 use Rattle.rx_top.proofs.draws.note_slot.Goals as goal
 

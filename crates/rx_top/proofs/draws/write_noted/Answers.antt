@@ -1,6 +1,6 @@
 use Rattle.std.proofs.Common.{refl}
 use Rattle.rx_io.proofs.Puts.{puts_after, puts_cut, puts_cut_first}
-use Rattle.rx_tick.specs.Schedule.{history, slots}
+use Rattle.rx_slots.specs.Schedule.{history, slots}
 use Rattle.rx_top.specs.Drawn.{first_windows, window_report}
 use Rattle.rx_top.specs.Report.{reported_events}
 use Rattle.rx_top.proofs.draws.write_noted.Goals as goal

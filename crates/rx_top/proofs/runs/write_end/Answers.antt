@@ -1,6 +1,6 @@
 use Rattle.std.proofs.Common.{◌≡◌, refl}
 use Rattle.rx_io.proofs.Puts.{puts_after, puts_cut, puts_cut_first}
-use Rattle.rx_tick.specs.Schedule.{history, slots}
+use Rattle.rx_slots.specs.Schedule.{history, slots}
 use Rattle.rx_top.specs.Report.{run_totals}
 use Rattle.rx_top.proofs.Counting.{counts_end}
 use Rattle.rx_top.proofs.Writes.{on_ok}

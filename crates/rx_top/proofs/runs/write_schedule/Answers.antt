@@ -1,6 +1,6 @@
 use Rattle.std.proofs.Common.{◌++◌, ◌∙◌, ap, sym, append-nil}
 use Rattle.rx_io.proofs.Puts.{puts_cut, puts_cut_first, takes_next}
-use Rattle.rx_tick.specs.Events.{events}
+use Rattle.rx_slots.specs.Events.{events}
 use Rattle.rx_top.specs.Runs.{lines_of}
 use Rattle.rx_top.proofs.Banks.{bank_left}
 use Rattle.rx_top.proofs.Lines.{schedule_parts}

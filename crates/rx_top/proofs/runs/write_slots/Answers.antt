@@ -1,7 +1,7 @@
 use Rattle.std.proofs.Common.{◌≡◌, ◌+◌, ap, arith}
 use Rattle.rx_io.proofs.Puts.{puts_cut, takes_next}
 use Rattle.rx_tick.specs.Executive.{Moment}
-use Rattle.rx_tick.specs.Events.{events}
+use Rattle.rx_slots.specs.Events.{events}
 use Rattle.rx_top.specs.Runs.{lines_of}
 use Rattle.rx_top.proofs.Lines.{slot_lines, lines_later}
 use Rattle.rx_top.proofs.runs.write_slots.Goals as goal

@@ -1,6 +1,6 @@
 use Rattle.std.proofs.Common.{◌≡◌, ◌≤◌, ◌-◌}
 use Rattle.rx_io.specs.Causes.{Takes}
-use Rattle.rx_tick.specs.Events.{events}
+use Rattle.rx_slots.specs.Events.{events}
 use Rattle.rx_top.specs.Runs.{lines_of, AreCounts}
 use Rattle.rx_top.proofs.runs.write_slots.Given as goal
 
