@@ -114,13 +114,13 @@ class Drawing:
         return {"name": f"t{number}", "period": period, "deadline": deadline, "offset": offset, "body": body}
 
     def draw_tasks(self):
-        if self.policy == "edf" and self.chance(0.15):
+        if self.policy == "edf" and self.chance(0.2):
             return self.random.choice([self.rare_tasks, self.full_tasks])()
         return self.usual_tasks()
 
     def usual_tasks(self):
         """Tasks with random shares of the processor, whose sum is below or above the whole."""
-        whole = self.random.uniform(0.3, 1.4)
+        whole = self.random.uniform(0.3, 1.1 if self.policy == "edf" else 1.4)
         shares = [self.random.uniform(0.2, 1) for _ in range(self.random.choice(TASKS))]
         tasks = []
         for number, share in enumerate(shares, 1):
@@ -142,7 +142,7 @@ class Drawing:
         """Three tasks that only work, whose shares are one half and two quarters."""
         half = self.random.randint(1, 10)
         tasks = [self.task(1, 2 * half, self.random.randint(half, 2 * half), [["work", half]])]
-        most = self.random.choice([5, 50, 250_000])
+        most = self.random.choice([5, 50, 250_000, 250_000])
         for number in (2, 3):
             quarter = self.random.randint(1, most)
             tasks.append(self.task(number, 4 * quarter, 4 * quarter, [["work", quarter]]))

@@ -65,7 +65,7 @@ class Task:
 
 @dataclass
 class TaskSet:
-    """A task file; `demands` has the ticks of work items by task (from 0), job and item (from 1)."""
+    """What a task file says; `demands` has ticks of work items by task (from 0), job and item (from 1)."""
 
     policy: str
     objects: list
@@ -216,10 +216,10 @@ def operations(task):
     return [item for item in task.body if isinstance(item, Operation)]
 
 
-def cost(tasks, task):
+def cost(taskset, task):
     """The stated cost of a task: the ticks of its work, and one attempt for each operation."""
     work = sum(item.ticks for item in task.body if isinstance(item, Work))
-    return work + sum(tasks.objects[item.object].attempt() for item in operations(task))
+    return work + sum(taskset.objects[item.object].attempt() for item in operations(task))
 
 
 def may_change(some):
@@ -227,27 +227,27 @@ def may_change(some):
     return {item.object for task in some for item in operations(task) if not still(item)}
 
 
-def longest(tasks, task, changed):
+def longest(taskset, task, changed):
     """The longest attempt of this task on one of these objects, and 0 if there is none."""
-    attempts = [tasks.objects[item.object].attempt() for item in operations(task) if item.object in changed]
+    attempts = [taskset.objects[item.object].attempt() for item in operations(task) if item.object in changed]
     return max(attempts, default=0)
 
 
-def ranked(tasks):
+def ranked(taskset):
     """The tasks in order of rank: by period or by deadline, the shorter first; ties go by file order."""
-    if tasks.policy == "rm":
-        return sorted(tasks.tasks, key=lambda task: task.period)
-    if tasks.policy == "dm":
-        return sorted(tasks.tasks, key=lambda task: task.deadline)
-    return list(tasks.tasks)
+    if taskset.policy == "rm":
+        return sorted(taskset.tasks, key=lambda task: task.period)
+    if taskset.policy == "dm":
+        return sorted(taskset.tasks, key=lambda task: task.deadline)
+    return list(taskset.tasks)
 
 
-def rank_charges(tasks, order, rank):
+def rank_charges(taskset, order, rank):
     """What a release of each higher rank can make the ranks down to this one repeat (ranks from 0).
 
     The preempted task is of a lower rank than the preempting one. Only ranks above its own can spoil it.
     """
-    spoiled = [longest(tasks, order[k], may_change(order[:k])) for k in range(rank + 1)]
+    spoiled = [longest(taskset, order[k], may_change(order[:k])) for k in range(rank + 1)]
     return [max(spoiled[j + 1:]) for j in range(rank)]
 
 
@@ -255,14 +255,14 @@ def rounded_up(number, divisor):
     return -(-number // divisor)
 
 
-def least_time(tasks, order, rank):
+def least_time(taskset, order, rank):
     """The least t, from 1 to the deadline, that serves the ranks down to this one; None where there is none.
 
     Each task is released at most ceil(t/period) times in t ticks, and at most ceil((t-1)/period) times
     strictly inside them; only the latter releases preempt.
     """
-    costs = [cost(tasks, task) for task in order[:rank + 1]]
-    charges = rank_charges(tasks, order, rank)
+    costs = [cost(taskset, task) for task in order[:rank + 1]]
+    charges = rank_charges(taskset, order, rank)
     periods = [task.period for task in order[:rank + 1]]
     for t in range(1, order[rank].deadline + 1):
         need = sum(rounded_up(t, period) * each for period, each in zip(periods, costs))
@@ -272,10 +272,10 @@ def least_time(tasks, order, rank):
     return None
 
 
-def fixed_test(tasks):
+def fixed_test(taskset):
     """The test line under fixed priorities, a line for each rank, and the status of `admit`."""
-    order = ranked(tasks)
-    times = [least_time(tasks, order, rank) for rank in range(len(order))]
+    order = ranked(taskset)
+    times = [least_time(taskset, order, rank) for rank in range(len(order))]
     lines = []
     for rank, (task, least) in enumerate(zip(order, times), 1):
         answer = "fails" if least is None else f"least {least}"
@@ -285,20 +285,20 @@ def fixed_test(tasks):
     return "test yes", lines, 0
 
 
-def deadline_charge(tasks, task):
+def deadline_charge(taskset, task):
     """What a release of this task can make others repeat, under earliest deadline first.
 
     The preempted task has a longer deadline. Only tasks with a shorter deadline than its own can spoil it.
     """
     charges = [0]
-    for other in tasks.tasks:
+    for other in taskset.tasks:
         if other.deadline > task.deadline:
-            shorter = [third for third in tasks.tasks if third.deadline < other.deadline]
-            charges.append(longest(tasks, other, may_change(shorter)))
+            shorter = [third for third in taskset.tasks if third.deadline < other.deadline]
+            charges.append(longest(taskset, other, may_change(shorter)))
     return max(charges)
 
 
-def deadline_test(tasks):
+def deadline_test(taskset):
     """The test line under earliest deadline first, and the status of `admit`.
 
     In each span of t ticks, the jobs that are released and due in it must need at most t. The span as long as
@@ -306,8 +306,8 @@ def deadline_test(tasks):
     span can fail only if one up to `last` does. No answer is sought where the multiple is too large, or where
     too many jobs become due up to `last`.
     """
-    rows = [(task.period, task.deadline, cost(tasks, task) + deadline_charge(tasks, task))
-            for task in tasks.tasks]
+    rows = [(task.period, task.deadline, cost(taskset, task) + deadline_charge(taskset, task))
+            for task in taskset.tasks]
     common = math.lcm(*[period for period, _, _ in rows])
     if common >= WIDE:
         return "test wide", 9
@@ -355,12 +355,12 @@ class Job:
 class Processor:
     """One processor, tick by tick, and the objects that its jobs share."""
 
-    def __init__(self, tasks):
-        self.tasks = tasks
-        self.rank = {task.name: rank for rank, task in enumerate(ranked(tasks))}
-        self.states = [first_state(part) for part in tasks.objects]
+    def __init__(self, taskset):
+        self.taskset = taskset
+        self.rank = {task.name: rank for rank, task in enumerate(ranked(taskset))}
+        self.states = [first_state(part) for part in taskset.objects]
         # The slots of loud calls, for each object: their number is the object's tag.
-        self.changes = [[] for _ in tasks.objects]
+        self.changes = [[] for _ in taskset.objects]
         # Released jobs that are not finished, the one of highest priority first.
         self.pending = []
         self.due = {}
@@ -369,7 +369,7 @@ class Processor:
         self.counts = dict.fromkeys(COUNTS, 0)
 
     def name(self, job):
-        return f"{self.tasks.tasks[job.task].name} {job.number}"
+        return f"{self.taskset.tasks[job.task].name} {job.number}"
 
     def tell(self, count, line):
         self.counts[count] += 1
@@ -377,9 +377,9 @@ class Processor:
 
     def key(self, job):
         """The priority of a job, the lower the higher: fixed from its release to its end."""
-        if self.tasks.policy == "edf":
+        if self.taskset.policy == "edf":
             return job.due, job.task, job.number
-        return self.rank[self.tasks.tasks[job.task].name], job.number
+        return self.rank[self.taskset.tasks[job.task].name], job.number
 
     def tell_misses(self, now):
         """A miss: a job is due now, and the slots before do not finish it. It goes on all the same."""
@@ -389,7 +389,7 @@ class Processor:
 
     def tell_releases(self, now):
         """Job k of a task is released k - 1 periods after the offset, and due its deadline later."""
-        for number, task in enumerate(self.tasks.tasks):
+        for number, task in enumerate(self.taskset.tasks):
             since = now - task.offset
             if since >= 0 and since % task.period == 0:
                 job = Job(number, since // task.period + 1, now + task.deadline)
@@ -414,16 +414,16 @@ class Processor:
 
     def advance(self, job, now):
         """A job gets one slot."""
-        body = self.tasks.tasks[job.task].body
+        body = self.taskset.tasks[job.task].body
         item = body[job.item]
         if job.had == 0:
             job.first = now
         job.had += 1
         if isinstance(item, Work):
             named = (job.task, job.number, job.item + 1)
-            complete = job.had == self.tasks.demands.get(named, item.ticks)
+            complete = job.had == self.taskset.demands.get(named, item.ticks)
         else:
-            last = job.had == self.tasks.objects[item.object].attempt()
+            last = job.had == self.taskset.objects[item.object].attempt()
             complete = last and self.decide(job, item, now)
         if complete:
             job.item += 1
@@ -439,7 +439,7 @@ class Processor:
         It loses where a loud call on the object was completed strictly between its first and its last slot.
         The operation then begins anew.
         """
-        part = self.tasks.objects[operation.object]
+        part = self.taskset.objects[operation.object]
         changes = self.changes[operation.object]
         if any(job.first < change < now for change in changes):
             expected = sum(change < job.first for change in changes)
@@ -460,7 +460,7 @@ class Processor:
     def close(self, ticks):
         """The lines after the last slot: the misses at that time, the objects, and the counts."""
         self.tell_misses(ticks)
-        for part, state, changes in zip(self.tasks.objects, self.states, self.changes):
+        for part, state, changes in zip(self.taskset.objects, self.states, self.changes):
             words = ["object", part.name, part.kind, "tag", len(changes), "state", *state]
             self.lines.append(" ".join(map(str, words)))
         counts = [f"{name} {count}" for name, count in self.counts.items()]
@@ -470,19 +470,19 @@ class Processor:
 # Reports
 
 
-def admit(tasks):
+def admit(taskset):
     """The lines and the status of `admit`; under fixed priorities each rank has a line, also after a no."""
-    if tasks.policy == "edf":
-        line, status = deadline_test(tasks)
+    if taskset.policy == "edf":
+        line, status = deadline_test(taskset)
         return [line], status
-    line, ranks, status = fixed_test(tasks)
+    line, ranks, status = fixed_test(taskset)
     return [line, *ranks], status
 
 
-def run(tasks, ticks):
+def run(taskset, ticks):
     """The lines and the status of `run`: the answer of the test is told, and does not count; a miss does."""
-    lines, _ = admit(tasks)
-    processor = Processor(tasks)
+    lines, _ = admit(taskset)
+    processor = Processor(taskset)
     for now in range(ticks):
         processor.slot(now)
     processor.close(ticks)
@@ -491,14 +491,14 @@ def run(tasks, ticks):
 
 def report(text, words):
     """The standard output and exit status of `rtx` with these words, `run N` or `admit`, on a valid file."""
-    tasks = read_set(text)
+    taskset = read_set(text)
     if words == ["admit"]:
-        lines, status = admit(tasks)
+        lines, status = admit(taskset)
     else:
         name, ticks = words
         if name != "run":
             raise ValueError(f"no report of {name}")
-        lines, status = run(tasks, int(ticks))
+        lines, status = run(taskset, int(ticks))
     return "".join(line + "\n" for line in lines).encode(), status
 
 
