@@ -16,11 +16,14 @@ use Rattle.rx_shape.specs.Layout.{Layout, IsLayout, words_of, home}
 use Rattle.rx_shape.proofs.Times.{times_run, length-read_run}
 use Rattle.rx_shape.proofs.Numbering.{in_words}
 
-pub is_block : (kind : Kind) → (kind ≡ Cell → ⊥) → form_of kind ≡ block
-is_block Cell other = absurd (other refl)
-is_block Queue other = refl
-is_block Ordered other = refl
-is_block Registers other = refl
+pub is_block : (kind : Kind) → kind ≡ Registers → form_of kind ≡ block
+is_block kind is = ap form_of is
+
+pub no_cell : (kind : Kind) → form_of kind ≡ block → kind ≡ Cell → ⊥
+no_cell Cell form is = cc
+no_cell Queue form is = cc
+no_cell Ordered form is = cc
+no_cell Registers form is = cc
 
 pub cap_few : (kind : Kind) (cap : ℕ) → IsCap kind cap → cap ≤ 64
 cap_few Cell cap h = omega arith
@@ -28,11 +31,11 @@ cap_few Queue cap h = omega arith
 cap_few Ordered cap h = omega arith
 cap_few Registers cap h = omega arith
 
-values_of : (kind : Kind) (cap : ℕ) (state : List ℕ) → (kind ≡ Cell → ⊥) → IsStateBy kind cap state → All IsValue state
-values_of Cell cap state other h = absurd (other refl)
-values_of Queue cap state other h = h.values
-values_of Ordered cap state other h = h.values
-values_of Registers cap state other h = h.values
+values_of : (kind : Kind) (cap : ℕ) (state : List ℕ) → form_of kind ≡ block → IsStateBy kind cap state → All IsValue state
+values_of Cell cap state form h = cc
+values_of Queue cap state form h = cc
+values_of Ordered cap state form h = cc
+values_of Registers cap state form h = h.values
 
 module _ (home : Home) (form : form_of home.part.kind ≡ block) where
   pub live_block : (root : ℕ) (words : List ℕ) → live home root words ≡ run (low_of root) (suc home.part.cap)
@@ -76,10 +79,9 @@ run_at words first (suc count) zero other h = ap (slice_index words) (let e : fi
 run_at words first (suc count) (suc k) other h = run_at words (first + 1) count k other (omega arith) ∙ ap (slice_index words) (let e : first + 1 + k ≡ first + suc k = omega arith in e)
 
 -- the words of a version in block form
-pub block_from : (layout : Layout) (object root : ℕ) (words : List ℕ) → IsLayout layout → object < length layout.parts → length words ≡ words_of layout → ((part_at layout.parts object).kind ≡ Cell → ⊥) → IsVersion (home layout object) root words → IsBlock words (low_of root)
-block_from layout object root words limits there size other v =
+pub block_from : (layout : Layout) (object root : ℕ) (words : List ℕ) → IsLayout layout → object < length layout.parts → length words ≡ words_of layout → form_of (part_at layout.parts object).kind ≡ block → IsVersion (home layout object) root words → IsBlock words (low_of root)
+block_from layout object root words limits there size form v =
     let part : Part = part_at layout.parts object in
-    let form : form_of part.kind ≡ block = is_block part.kind other in
     let here : Home = home layout object in
     let low : ℕ = low_of root in
     let count : ℕ = slice_index words low in
@@ -88,7 +90,7 @@ block_from layout object root words limits there size other v =
     let fits : count ≤ cap = formed_block here form root words v.formed in
     let last : 0 < times (low + cap) (live here root words) = rw (live_block here form root words) (times_run low (suc cap) (low + cap) (omega arith) (omega arith)) in
     let within : low + cap < words_of layout = in_words layout object (low + cap) there (v.inside (low + cap) last) in
-    let values : All IsValue (read_run words (low + 1) count) = values_of part.kind cap (read_run words (low + 1) count) other (subst (λ (state : List ℕ). IsState part state) (decoded_block here form root words) v.state) in
+    let values : All IsValue (read_run words (low + 1) count) = values_of part.kind cap (read_run words (low + 1) count) form (subst (λ (state : List ℕ). IsState part state) (decoded_block here form root words) v.state) in
     let many : length (read_run words (low + 1) count) ≡ count = length-read_run words (low + 1) count in
     record {
       few = omega arith;

@@ -9,7 +9,6 @@ use Rattle.rx_seq.specs.declared.calls.Call.{Call}
 use Rattle.rx_seq.specs.declared.replies.Reply.{Reply}
 use Rattle.rx_seq.specs.Table.{answers, effect, most_value}
 use Rattle.rx_seq.specs.States.{IsState}
-use Rattle.rx_seq.proofs.Ordered.{Rises}
 use Rattle.rx_shape.specs.declared.homes.Home.{Home}
 use Rattle.rx_shape.specs.declared.plans.Taken.{Taken}
 use Rattle.rx_shape.specs.declared.plans.Want.TheVariants.{Read, Ready, Stale}
@@ -94,46 +93,27 @@ pub settled_whole : (home : Home) (form : form_of home.part.kind ≡ block) (roo
 settled_whole home form root words call whole memory has =
     ap (λ (state : List ℕ). effect home.part state call) (whole_is home.part words (decoded home root memory) whole (begins home form root words memory has.version has.read))
 
-rises_by : (xs : List ℕ) → ((n : ℕ) → suc n < length xs → slice_index xs n < slice_index xs (suc n)) → (j i : ℕ) → i < j → j < length xs → slice_index xs i < slice_index xs j
-rises_by xs up zero i below there = absurd (omega arith)
-rises_by xs up (suc j) i below there =
-    let last = up j there in
-    dite (ℕ_discrete i j)
-    (λ e. subst (λ (n : ℕ). slice_index xs n < slice_index xs (suc j)) (sym e) last)
-    (λ ne. let before = rises_by xs up j i (omega arith) (omega arith) in omega arith)
-
-pub rises_all : (xs : List ℕ) → ((n : ℕ) → suc n < length xs → slice_index xs n < slice_index xs (suc n)) → Rises xs
-rises_all xs up i j d below there =
-    let low = get_or_default_zero xs i d (omega arith) in
-    let high = get_or_default_zero xs j d there in
-    let apart = rises_by xs up j i below there in omega arith
-
 pub state_whole : (part : Part) (form : form_of part.kind ≡ block) (words : List ℕ) → IsWhole part words → IsState part (numbers_of words)
 state_whole part form words whole =
     let all = whole.all in
     let count : ℕ = slice_index words 0 in
     let some : 0 < length words = omega arith in
     let many : length (numbers_of words) ≡ count = length-read_run words 1 count in
-    let most : count ≤ part.cap = whole.lined.most some in
+    let all_is : count ≡ part.cap = whole.lined.all some in
     let at : (n : ℕ) → n < count → slice_index (numbers_of words) n ≡ slice_index words (suc n) = λ n below. number_at words count n below in
     state_by part.kind part.cap (numbers_of words) form (record {
-      room = omega arith;
-      all = λ e. many ∙ whole.lined.all some e;
+      all = omega arith;
       values = λ n d below.
           let same = get_or_default_zero (numbers_of words) n d below in
           let value = whole.lined.values n (omega arith) in
           let here = at n (omega arith) in omega arith;
-      rising = λ e. rises_all (numbers_of words) (λ n below.
-          let low = at n (omega arith) in
-          let high = at (suc n) (omega arith) in
-          let apart = whole.lined.rising e n (omega arith) in omega arith);
     })
 
 -- words that are read whole are a block at the first of them
 pub block_whole : (part : Part) (words : List ℕ) → part.cap ≤ 64 → IsWhole part words → IsBlock words 0
 block_whole part words few whole =
     let all = whole.all in
-    let most = whole.lined.most (omega arith) in
+    let most = whole.lined.all (omega arith) in
     record { few = omega arith; inside = omega arith; values = λ n below. let e : 0 + 1 + n ≡ suc n = omega arith in subst (λ (i : ℕ). slice_index words i ≤ most_value) (sym e) (whole.lined.values n (omega arith)) }
 
 -- what a step wants
@@ -171,7 +151,7 @@ took home step low place word words now is next =
 pub open_few : (part : Part) (words : List ℕ) → IsOpen part words → length words ≤ part.cap
 open_few part words is = dite (ℕ_discrete (length words) 0)
     (λ e. omega arith)
-    (λ ne. let some : 0 < length words = omega arith in let more = is.more some in let most = is.lined.most some in omega arith)
+    (λ ne. let some : 0 < length words = omega arith in let more = is.more some in let most = is.lined.all some in omega arith)
 
 -- what the call makes of the state of words that are read whole
 module _ (home : Home) (form : form_of home.part.kind ≡ block) (root : ℕ) (words : List ℕ) (call : Call) (whole : IsWhole home.part words) (state now : List ℕ) (reply : Reply)

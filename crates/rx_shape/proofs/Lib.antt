@@ -1,13 +1,17 @@
 pub mod Times
 pub mod Numbering
+pub mod Chains
+pub mod NodeForm
 pub mod Local
 pub mod InlinePlans
 pub mod Starts
 mod Ends
-mod Quiet
+pub mod Quiet
+pub mod Staying
 mod BlockForm
 mod Walked
 mod BlockWants
 mod Moving
+mod BlockPlans
 mod Served
 mod Settling

@@ -8,9 +8,11 @@ use Rattle.rx_shape.specs.declared.plans.Taken.{Taken}
 use Rattle.rx_shape.specs.declared.plans.Write.{Write}
 use Rattle.rx_shape.specs.Words.{low_of}
 use Rattle.rx_shape.specs.Places.{times, run, read_run}
-use Rattle.rx_shape.specs.Forms.{Form, inline, block, form_of, stock_as, stock_size, InRange, live_as, decoded_as, IsFormedAs, IsStockAs, live, decoded, IsFormed, IsStock, IsVersion, start_own, first_own}
+use Rattle.rx_shape.specs.Nodes.{first_of, spare_of, walk, ends, values}
+use Rattle.rx_shape.specs.Forms.{Form, inline, block, node, form_of, nodes_of, spares_of, stock_as, stock_size, InRange, live_as, decoded_as, IsFormedAs, IsStockAs, live, decoded, IsFormed, IsStock, IsVersion, start_own, first_own}
 use Rattle.rx_shape.specs.Versions.{HasRead, HasWritten, NotWritten, Same}
-use Rattle.rx_shape.proofs.Times.{times_at, times_once, times_run, same_run, length-run}
+use Rattle.rx_shape.proofs.Times.{times_here, times_at, times-append, times_once, times_run, same_run, length-run}
+use Rattle.rx_shape.proofs.Chains.{walk_same, ends_same, values_same}
 
 local_as : (form : Form) (home : Home) (root : ℕ) (words others : List ℕ) → IsFormedAs form home root words
     → ((p : ℕ) → 0 < times p (live_as form home root words) → slice_index others p ≡ slice_index words p)
@@ -23,6 +25,24 @@ local_as block home root words others formed same =
       refl,
       ap (λ (n : ℕ). read_run others (b + 1) n) first ∙ same_run words others (b + 1) (slice_index words b) (λ p from to. here p (omega arith) (omega arith)),
       subst (λ (n : ℕ). n ≤ home.part.cap) (sym first) formed,
+    )
+local_as node home root words others formed same =
+    let cap : ℕ = home.part.cap in
+    let b : ℕ = low_of root in
+    let nodes : List ℕ = nodes_of cap root words in
+    let spares : List ℕ = spares_of cap root words in
+    let head : slice_index others b ≡ slice_index words b = same b (let s = times_here b (nodes ++ spares) in omega arith) in
+    let inner : (q : ℕ) → 0 < times q nodes → slice_index others q ≡ slice_index words q = λ q at. same q (let s = times-append q nodes spares in omega arith) in
+    let outer : (q : ℕ) → 0 < times q spares → slice_index others q ≡ slice_index words q = λ q at. same q (let s = times-append q nodes spares in omega arith) in
+    let ns : nodes_of cap root others ≡ nodes = ap (λ (w : ℕ). walk cap others (first_of w)) head ∙ walk_same cap words others (first_of (slice_index words b)) inner in
+    let ss : spares_of cap root others ≡ spares = ap (λ (w : ℕ). walk cap others (spare_of w)) head ∙ walk_same cap words others (spare_of (slice_index words b)) outer in (
+      (λ j. b ∷ ns j ++ ss j),
+      ap (values others) ns ∙ values_same words others nodes inner,
+      record {
+        nodes = ap (λ (w : ℕ). ends cap others (first_of w)) head ∙ ends_same cap words others (first_of (slice_index words b)) inner ∙ formed.nodes;
+        spares = ap (λ (w : ℕ). ends cap others (spare_of w)) head ∙ ends_same cap words others (spare_of (slice_index words b)) outer ∙ formed.spares;
+        all = (λ j. length (ns j) + length (ss j)) ∙ formed.all;
+      },
     )
 
 pub local : (home : Home) (root : ℕ) (words others : List ℕ) → IsVersion home root words → ((p : ℕ) → 0 < times p (live home root words) → slice_index others p ≡ slice_index words p) → Same home root words others
@@ -43,6 +63,7 @@ local home root words others v same =
 many_as : (form : Form) (home : Home) (places : List ℕ) → IsStockAs form home places → length places ≡ stock_as form home.part.cap
 many_as inline home places h = ap length h
 many_as block home places h = ap length h ∙ length-run (slice_index places 0) (suc home.part.cap)
+many_as node home places h = h
 
 pub stock_many : (home : Home) (places : List ℕ) → IsStock home places → length places ≡ stock_size home.part
 unfolding IsStock
@@ -51,6 +72,7 @@ stock_many home places h = many_as (form_of home.part.kind) home places h
 start_as : (form : Form) (home : Home) (first : ℕ) → IsStockAs form home (run first (stock_as form home.part.cap))
 start_as inline home first = refl
 start_as block home first = refl
+start_as node home first = length-run first (suc home.part.cap)
 
 pub start_stock : (home : Home) (seat : ℕ) → IsStock home (start_own home seat)
 unfolding IsStock
@@ -59,6 +81,7 @@ start_stock home seat = start_as (form_of home.part.kind) home (first_own home s
 root_as : (form : Form) (home : Home) (root : ℕ) (words : List ℕ) → ((p : ℕ) → 0 < times p (live_as form home root words) → InRange home p) → 0 < stock_as form home.part.cap → InRange home (low_of root)
 root_as inline home root words inside some = absurd (omega arith)
 root_as block home root words inside some = inside (low_of root) (times_run (low_of root) (suc home.part.cap) (low_of root) (omega arith) (omega arith))
+root_as node home root words inside some = inside (low_of root) (let s = times_here (low_of root) (nodes_of home.part.cap root words ++ spares_of home.part.cap root words) in omega arith)
 
 pub root_in : (home : Home) (root : ℕ) (words : List ℕ) → IsVersion home root words → 0 < stock_size home.part → InRange home (low_of root)
 unfolding live
@@ -71,6 +94,15 @@ same_as block home root new words e = (
   ap (λ (n : ℕ). run n (suc home.part.cap)) e,
   ap (λ (n : ℕ). read_run words (n + 1) (slice_index words n)) e,
   λ h. subst (λ (n : ℕ). slice_index words n ≤ home.part.cap) (sym e) h,
+)
+same_as node home root new words e = (
+  (λ j. e j ∷ walk home.part.cap words (first_of (slice_index words (e j))) ++ walk home.part.cap words (spare_of (slice_index words (e j)))),
+  (λ j. values words (walk home.part.cap words (first_of (slice_index words (e j))))),
+  λ h. record {
+    nodes = ap (λ (n : ℕ). ends home.part.cap words (first_of (slice_index words n))) e ∙ h.nodes;
+    spares = ap (λ (n : ℕ). ends home.part.cap words (spare_of (slice_index words n))) e ∙ h.spares;
+    all = ap (λ (n : ℕ). length (walk home.part.cap words (first_of (slice_index words n))) + length (walk home.part.cap words (spare_of (slice_index words n)))) e ∙ h.all;
+  },
 )
 
 -- of a root only the low part matters

@@ -1,5 +1,5 @@
 -- Plans of a block.
-use Rattle.std.proofs.Common.{◌≡◌, ◌≢◌, ℕ, zero, suc, ◌+◌, ◌<◌, ◌≤◌, List, [], ◌∷◌, ◌++◌, length, set, take, true, false, refl, sym, ap, ◌∙◌, subst, arith}
+use Rattle.std.proofs.Common.{◌≡◌, ◌≢◌, ℕ, zero, suc, ◌+◌, ◌<◌, ◌≤◌, List, [], ◌∷◌, ◌++◌, length, set, take, false, refl, sym, ap, ◌∙◌, subst, arith}
 use Rattle.std.specs.Prelude.{slice_index}
 use Rattle.rx_seq.specs.declared.calls.Call.{Call}
 use Rattle.rx_seq.specs.declared.replies.Reply.{Reply}
@@ -14,13 +14,12 @@ use Rattle.rx_shape.specs.Words.{pack, tag_of, low_of}
 use Rattle.rx_shape.specs.Places.{times, run, read_run}
 use Rattle.rx_shape.specs.Forms.{block, form_of, stock_size, InRange, live, decoded, IsStock, IsVersion}
 use Rattle.rx_shape.specs.Versions.{HasRead, HasWritten, NotWritten, traded}
-use Rattle.rx_shape.specs.Settled.{HasTaken, Answers, Stays}
+use Rattle.rx_shape.specs.Settled.{Answers}
 use Rattle.rx_shape.specs.Asks.{WritesOnce, EachBelow, IsPlanned}
 use Rattle.rx_shape.specs.Moves.{number_writes, block_writes, block_pairs}
 use Rattle.rx_shape.proofs.Times.{times_at, length-run, run_once}
-use Rattle.rx_shape.proofs.Local.{same_form}
 use Rattle.rx_shape.proofs.BlockForm.{live_block, decoded_block, block_is_formed, block_is_stock, stock_block, size_block}
-use Rattle.rx_shape.proofs.Quiet.{raised_quiet, raised_loud}
+use Rattle.rx_shape.proofs.Quiet.{raised_loud}
 
 -- what is written
 pub writes_more : (own : ℕ) (numbers : List ℕ) (n : ℕ) → n < length numbers → number_writes own (take (n + 1) numbers) ≡ number_writes own (take n numbers) ++ record { own = own + n; value = slice_index numbers n } ∷ []
@@ -102,30 +101,6 @@ run_index : (first count n : ℕ) → n < count → slice_index (run first count
 run_index first zero n below = absurd (omega arith)
 run_index first (suc count) zero below = omega arith
 run_index first (suc count) (suc n) below = let r = run_index (first + 1) count n (omega arith) in omega arith
-
--- a plan that leaves the block as it is, of a call that is quiet where there is a version
-pub stay_planned : (home : Home) (call : Call) (root : ℕ) (taken : List Taken) (own : List ℕ) (new : ℕ) (reply : Reply) → IsStock home own → new ≡ root → Stays home call root taken reply → ((words : List ℕ) → HasTaken home root taken words → is_quiet call (effect home.part (decoded home root words) call).reply ≡ true) → IsPlanned home call root taken own new [] [] reply
-stay_planned home call root taken own new reply stock is stays quiet =
-    let at : (words : List ℕ) → IsVersion home root words → HasRead (live home root words) words taken → effect home.part (decoded home root words) call ≡ answers (decoded home root words) reply =
-    λ words version read. stays words (record { version = version; read = read }) in
-    record {
-      plans = record {
-        works = λ words version read apart written.
-            let same = same_form home root new words (ap low_of is) in
-            let none = raised_quiet call (effect home.part (decoded home root words) call).reply (quiet words (record { version = version; read = read })) in record {
-              version = same.2 version;
-              state = same.1 ∙ sym (ap (λ (e : Effect). e.state) (at words version read));
-              tag = ap tag_of is ∙ omega arith;
-              quiet = λ _. (is, refl);
-              places = λ p. ap (λ (ps : List ℕ). times p ps + times p own) same.0;
-              stock = stock;
-            };
-      };
-      once = tt;
-      below = tt;
-      says = λ words version read. sym (ap (λ (e : Effect). e.reply) (at words version read));
-      quiet = λ _. (is, refl, refl);
-    }
 
 module _ (home : Home) (form : form_of home.part.kind ≡ block) (own : List ℕ) (stock : IsStock home own) (ranges : (place : ℕ) → 0 < times place own → InRange home place) where
   pub own_run : own ≡ run (slice_index own 0) (suc home.part.cap)

@@ -8,7 +8,7 @@ use Rattle.rx_seq.specs.declared.kinds.Kind.TheVariants.{Cell, Queue, Registers,
 use Rattle.rx_seq.specs.declared.kinds.Part.{Part}
 use Rattle.rx_seq.specs.Table.{IsCap, IsPart}
 use Rattle.rx_seq.specs.History.{no_part, part_at}
-use Rattle.rx_shape.specs.Forms.{Form, inline, block, form_of, stock_as, stock_size, InRange}
+use Rattle.rx_shape.specs.Forms.{Form, inline, block, node, form_of, stock_as, stock_size, InRange}
 use Rattle.rx_shape.specs.Layout.{Layout, IsLayout, places_of, all_places, words_of, end_after, place_after, first_as, home}
 
 pub stock_few : (kind : Kind) (cap : ℕ) → IsCap kind cap → stock_as (form_of kind) cap ≤ 65
@@ -61,6 +61,7 @@ next_after layout object other there h =
 range_as : (form : Form) (after cap seats place : ℕ) → first_as form after ≤ place → place < first_as form after + stock_as form cap * seats → (after ≤ place) × (place < after + stock_as form cap * seats)
 range_as inline after cap seats place from below = absurd (omega arith)
 range_as block after cap seats place from below = (from, below)
+range_as node after cap seats place from below = (from, below)
 
 -- the places of an object follow those of the objects before it
 pub range_is : (layout : Layout) (object place : ℕ) → InRange (home layout object) place

@@ -6,7 +6,7 @@ use Rattle.rx_seq.specs.declared.kinds.Part.{Part}
 use Rattle.rx_seq.specs.Table.{IsPart}
 use Rattle.rx_seq.specs.History.{part_at}
 use Rattle.rx_shape.specs.declared.homes.Home.{Home}
-use Rattle.rx_shape.specs.Forms.{Form, inline, block, form_of, stock_size}
+use Rattle.rx_shape.specs.Forms.{Form, inline, block, node, form_of, stock_size}
 
 -- the parts of the objects, the number of seats, and the tag at the start
 pub record Layout : Type 0 where
@@ -50,6 +50,7 @@ pub record AreEnds (seats : ℕ) (parts : List Part) (ends : List ℕ) : Type 0 
 abbrev pub first_as : Form → ℕ → ℕ
 first_as inline place = 0
 first_as block place = place
+first_as node place = place
 
 -- the first place of an object, and 0 for a cell
 abbrev pub first_place : Layout → ℕ → ℕ

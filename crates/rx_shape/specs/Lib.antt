@@ -1,5 +1,6 @@
 pub mod Words
 pub mod Places
+pub mod Nodes
 pub mod Forms
 pub mod Layout
 pub mod Versions

@@ -1,10 +1,11 @@
 -- Worked rows of root words, the numbering of places, the words of the start, what a root and a block stand for,
 -- what is written and traded for a block, and what a walk wants next.
-use Rattle.std.specs.Prelude.{ℕ, ◌≡◌, refl, [], ◌∷◌, replicate}
-use Rattle.rx_seq.specs.declared.kinds.Kind.TheVariants.{Cell, Queue, Registers}
-use Rattle.rx_seq.specs.declared.replies.Reply.TheVariants.{Full}
+use Rattle.std.specs.Prelude.{ℕ, ◌≡◌, ◌+◌, ◌*◌, refl, [], ◌∷◌, replicate}
+use Rattle.rx_seq.specs.declared.kinds.Kind.TheVariants.{Cell, Queue, Registers, List as Ordered}
+use Rattle.rx_seq.specs.declared.replies.Reply.TheVariants.{Done}
 use Rattle.rx_shape.specs.Words.{pack, tag_of, low_of}
-use Rattle.rx_shape.specs.Forms.{inline, block, start_own, live_as, decoded_as}
+use Rattle.rx_shape.specs.Nodes.{no_place, node_word, header_word}
+use Rattle.rx_shape.specs.Forms.{inline, block, node, start_own, live_as, decoded_as}
 use Rattle.rx_shape.specs.Layout.{Layout, words_of, first_place, home}
 use Rattle.rx_shape.specs.Start.{start_word}
 use Rattle.rx_shape.specs.declared.plans.Taken.{Taken}
@@ -81,8 +82,15 @@ root_of_queue = refl
 pub root_of_registers : start_word small 3 ≡ pack 5 10
 root_of_registers = refl
 
-pub length_of_queue : start_word small 4 ≡ 0
-length_of_queue = refl
+-- the queue's header leads to no node, and to the spare node at the next place, which leads to none
+pub header_of_queue : start_word small 4 ≡ 16777215 * 16777216 + 5
+header_of_queue = refl
+
+pub spare_of_queue : start_word small 5 ≡ 16777215
+spare_of_queue = refl
+
+pub place_of_first_seat : start_word small 6 ≡ 0
+place_of_first_seat = refl
 
 pub length_of_registers : start_word small 10 ≡ 2
 length_of_registers = refl
@@ -116,32 +124,45 @@ pub numbers_read : numbers_of (2 ∷ 3 ∷ 9 ∷ []) ≡ 3 ∷ 9 ∷ []
 numbers_read = refl
 
 -- the next place is wanted while words are missing, and none of a block that does not fit the object's places
-pub next_word : next_want (home small 1) Open 4 1 ≡ Read 5
+pub next_word : next_want (home small 2) Open 10 1 ≡ Read 11
 next_word = refl
 
-pub no_block : next_want (home small 1) Open 9 0 ≡ Stale
+pub no_block : next_want (home small 2) Open 17 0 ≡ Stale
 no_block = refl
 
 -- what is read of an object settles the call, or no state has it: then nothing more is wanted
-pub nothing_more : next_want (home small 1) Whole 4 2 ≡ Ready
+pub nothing_more : next_want (home small 2) Whole 10 3 ≡ Ready
 nothing_more = refl
 
-pub nothing_of_use : next_want (home small 1) Broken 4 1 ≡ Stale
+pub nothing_of_use : next_want (home small 2) Broken 10 1 ≡ Stale
 nothing_of_use = refl
 
-pub answered_early : next_want (home small 1) (Kept Full) 4 1 ≡ Ready
+pub answered_early : next_want (home small 2) (Kept (Done 7)) 10 2 ≡ Ready
 answered_early = refl
 
--- a queue whose block at place 4 has one number, 42, and registers whose block at place 4 has 7 and 8
-pub queue_places : live_as block (home small 1) (pack 5 4) (0 ∷ 0 ∷ 0 ∷ 0 ∷ 1 ∷ 42 ∷ []) ≡ 4 ∷ 5 ∷ []
+-- a queue of one number, 42: its header at place 4 leads to the node at place 5 and to no spare node
+pub queue_places : live_as node (home small 1) (pack 5 4) (0 ∷ 0 ∷ 0 ∷ 0 ∷ header_word 5 no_place ∷ node_word 42 no_place ∷ []) ≡ 4 ∷ 5 ∷ []
 queue_places = refl
 
-pub queue_state : decoded_as block (home small 1) (pack 5 4) (0 ∷ 0 ∷ 0 ∷ 0 ∷ 1 ∷ 42 ∷ []) ≡ 42 ∷ []
+pub queue_state : decoded_as node (home small 1) (pack 5 4) (0 ∷ 0 ∷ 0 ∷ 0 ∷ header_word 5 no_place ∷ node_word 42 no_place ∷ []) ≡ 42 ∷ []
 queue_state = refl
 
-pub empty_queue : decoded_as block (home small 1) (pack 5 4) (0 ∷ 0 ∷ 0 ∷ 0 ∷ 0 ∷ 42 ∷ []) ≡ []
+-- an empty one: the header at place 5 leads to no node, and to the spare node at place 4, whose value means nothing
+pub empty_places : live_as node (home small 1) (pack 5 5) (0 ∷ 0 ∷ 0 ∷ 0 ∷ node_word 42 no_place ∷ header_word no_place 4 ∷ []) ≡ 5 ∷ 4 ∷ []
+empty_places = refl
+
+pub empty_queue : decoded_as node (home small 1) (pack 5 5) (0 ∷ 0 ∷ 0 ∷ 0 ∷ node_word 42 no_place ∷ header_word no_place 4 ∷ []) ≡ []
 empty_queue = refl
 
+-- a list of two numbers, 3 and 9, of three: the nodes lead from the header at place 2 to places 1 and 4, and the spare node
+-- is at place 0
+pub list_places : live_as node (record { part = record { kind = Ordered; cap = 3 }; first = 0; count = 8 }) (pack 1 2) (node_word 7 no_place ∷ node_word 3 4 ∷ header_word 1 0 ∷ 0 ∷ node_word 9 no_place ∷ []) ≡ 2 ∷ 1 ∷ 4 ∷ 0 ∷ []
+list_places = refl
+
+pub list_state : decoded_as node (record { part = record { kind = Ordered; cap = 3 }; first = 0; count = 8 }) (pack 1 2) (node_word 7 no_place ∷ node_word 3 4 ∷ header_word 1 0 ∷ 0 ∷ node_word 9 no_place ∷ []) ≡ 3 ∷ 9 ∷ []
+list_state = refl
+
+-- a block at place 4 that has 7 and 8
 pub registers_state : decoded_as block (home small 2) (pack 5 4) (0 ∷ 0 ∷ 0 ∷ 0 ∷ 2 ∷ 7 ∷ 8 ∷ []) ≡ 7 ∷ 8 ∷ []
 registers_state = refl
 

@@ -1,4 +1,4 @@
--- When the words taken settle a call.
+-- What the words taken tell of a call.
 use Rattle.std.specs.Prelude.{ℕ, ◌≡◌, List}
 use Rattle.rx_seq.specs.declared.calls.Call.{Call}
 use Rattle.rx_seq.specs.declared.replies.Reply.{Reply}
@@ -22,9 +22,3 @@ Answers home call root taken answer =
 abbrev pub Stays : Home → Call → ℕ → List Taken → Reply → Type 0
 Stays home call root taken reply =
     (words : List ℕ) → HasTaken home root taken words → effect home.part (decoded home root words) call ≡ answers (decoded home root words) reply
-
--- the words taken settle the call: they settle its reply, and either they settle the next state or each version that
--- has them keeps its own
-pub data IsSettled (home : Home) (call : Call) (root : ℕ) (taken : List Taken) : Type 0 where
-  answered : (answer : Effect) → Answers home call root taken answer → IsSettled home call root taken
-  stayed : (reply : Reply) → Stays home call root taken reply → IsSettled home call root taken

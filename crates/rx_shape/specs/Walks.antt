@@ -1,6 +1,5 @@
 -- The words of a block that are read in order, and what they say of a call.
 use Rattle.std.specs.Prelude.{ℕ, suc, ◌≡◌, ◌+◌, ◌<◌, ◌≤◌, nat_lt, true, if◌then◌else◌, List, [], ◌∷◌, length, slice_index}
-use Rattle.rx_seq.specs.declared.kinds.Kind.TheVariants.{Registers, List as Ordered}
 use Rattle.rx_seq.specs.declared.kinds.Part.{Part}
 use Rattle.rx_seq.specs.declared.calls.Call.{Call}
 use Rattle.rx_seq.specs.declared.replies.Reply.{Reply}
@@ -25,8 +24,7 @@ pub record ServesBlocks (home : Home) (call : Call) : Type 0 where
 -- the limits of the capacity of a part in block form
 pub record IsBounded (part : Part) : Type 0 where
   pub least : 1 ≤ part.cap
-  pub most : part.cap ≤ 64
-  pub registers : part.kind ≡ Registers → part.cap ≤ 16
+  pub most : part.cap ≤ 16
 
 -- the words begin the block of this state: its length, and then its numbers
 pub record Begins (words state : List ℕ) : Type 0 where
@@ -49,14 +47,11 @@ IsWithin count words = 0 < count → count ≤ suc (slice_index words 0)
 abbrev pub HaveNumbers : ℕ → List ℕ → Type 0
 HaveNumbers count words = (n : ℕ) → suc n < count → slice_index words (suc n) ≤ most_value
 
--- the first so many words can stand in a block of the part: a length in its range, numbers of 32 bits, in rising order
--- for a list
+-- the first so many words can stand in a block of the part: a length that is the capacity, and numbers of 32 bits
 pub record IsLined (part : Part) (count : ℕ) (words : List ℕ) : Type 0 where
   pub within : IsWithin count words
-  pub most : 0 < count → slice_index words 0 ≤ part.cap
-  pub all : 0 < count → part.kind ≡ Registers → slice_index words 0 ≡ part.cap
+  pub all : 0 < count → slice_index words 0 ≡ part.cap
   pub values : HaveNumbers count words
-  pub rising : part.kind ≡ Ordered → (n : ℕ) → suc (suc n) < count → slice_index words (suc n) < slice_index words (suc (suc n))
 
 -- numbers are still to come
 pub record IsOpen (part : Part) (words : List ℕ) : Type 0 where

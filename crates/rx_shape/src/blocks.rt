@@ -8,7 +8,7 @@ ghost use Rattle.std.specs.Prelude.{◌≡◌, ◌≤◌, ◌+◌, true, [], len
 
 use crate::homes::Home;
 use crate::layouts::read_block;
-use crate::moves::{move_block, stay};
+use crate::moves::move_block;
 use crate::plans::{MOST_PLACES, MOST_READS, Plan, Want};
 use crate::roots::low_of;
 use crate::shapes::Shape;
@@ -85,6 +85,7 @@ impl Shape for Blocks {
     }
 
     fn want(&self, root: u64) -> Want {
+        quiet_calls_stay();
         let low = low_of(root);
         if low + self.home.part.cap >= self.home.first + self.home.count {
             return Want::Stale;
@@ -106,7 +107,7 @@ impl Shape for Blocks {
     fn plan(&self, root: u64, own: &ArrayVec<u32, MOST_PLACES>, out: &mut Plan) -> Reply {
         quiet_calls_stay();
         if let Step::Kept { reply } = self.step {
-            stay(root, out);
+            out.stay(root);
             return reply;
         }
         let words = self.words.as_slice();
@@ -114,7 +115,7 @@ impl Shape for Blocks {
         read_block(words, 0, &mut state);
         let reply = apply(self.home.part, &mut state, self.call);
         if quiet(self.call, reply) {
-            stay(root, out);
+            out.stay(root);
         } else {
             move_block(root, own.as_slice(), state.as_slice(), out);
         }

@@ -45,6 +45,7 @@ impl Shape for Inline {
     }
 
     fn want(&self, _root: u64) -> Want {
+        quiet_calls_stay();
         Want::Ready
     }
 

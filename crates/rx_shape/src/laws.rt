@@ -3,11 +3,12 @@ ghost use Rattle.rx_seq.specs.History.{part_at};
 ghost use Rattle.rx_seq.specs.Table.{effect, fits_part};
 ghost use Rattle.rx_seq.specs.declared.calls.Call.{Call};
 ghost use Rattle.rx_seq.specs.declared.replies.Reply.{Reply};
-ghost use Rattle.rx_shape.specs.Asks.{IsPlanned};
-ghost use Rattle.rx_shape.specs.Forms.{InRange, IsStock, IsVersion, block, decoded, form_of, live, start_own, stock_size};
+ghost use Rattle.rx_shape.specs.Asks.{HasPlan, IsSettled};
+ghost use Rattle.rx_shape.specs.Forms.{InRange, IsStock, IsVersion, block, decoded, form_of, live, node, nodes_of, spares_of, start_own, stock_size};
 ghost use Rattle.rx_shape.specs.Layout.{IsLayout, Layout, home, root_of, words_of};
+ghost use Rattle.rx_shape.specs.Nodes.{values};
 ghost use Rattle.rx_shape.specs.Places.{run, times};
-ghost use Rattle.rx_shape.specs.Settled.{HasTaken, IsSettled};
+ghost use Rattle.rx_shape.specs.Settled.{HasTaken};
 ghost use Rattle.rx_shape.specs.Start.{IsStart};
 ghost use Rattle.rx_shape.specs.Versions.{HasRead, HasWritten, Makes, Plans, Same, Starts, traded};
 ghost use Rattle.rx_shape.specs.Walks.{ServesBlocks};
@@ -16,7 +17,7 @@ ghost use Rattle.rx_shape.specs.declared.homes.Home.{Home};
 ghost use Rattle.rx_shape.specs.declared.plans.Pair.{Pair};
 ghost use Rattle.rx_shape.specs.declared.plans.Taken.{Taken};
 ghost use Rattle.rx_shape.specs.declared.plans.Write.{Write};
-ghost use Rattle.std.specs.Prelude.{ℕ, suc, ◌≡◌, ◌≤◌, ◌<◌, ◌+◌, true, List, length, slice_index};
+ghost use Rattle.std.specs.Prelude.{ℕ, suc, ◌≡◌, ◌≤◌, ◌<◌, ◌+◌, ◌^◌, true, List, ◌∷◌, ◌++◌, length, slice_index};
 
 /// The words of the live places alone decide the live places, the state, and that there is a version. Of the root only
 /// the low part does.
@@ -52,6 +53,14 @@ pub fn blocks_follow()
     ensures stock { (home : Home) (places : List ℕ) → form_of home.part.kind ≡ block → IsStock home places → places ≡ run (slice_index places 0) (suc home.part.cap) }
 {}
 
+/// In node form the live places of a version are the header, which the low part of the root names, the nodes and the spare
+/// nodes, as many as the capacity and 1 together. The numbers of the state are the values of the nodes in order.
+pub fn nodes_are_linked()
+    ensures live { (home : Home) (root : ℕ) (words : List ℕ) → form_of home.part.kind ≡ node → live home root words ≡ low_of root ∷ nodes_of home.part.cap root words ++ spares_of home.part.cap root words }
+    ensures all { (home : Home) (root : ℕ) (words : List ℕ) → form_of home.part.kind ≡ node → IsVersion home root words → length (live home root words) ≡ suc home.part.cap }
+    ensures state { (home : Home) (root : ℕ) (words : List ℕ) → form_of home.part.kind ≡ node → decoded home root words ≡ values words (nodes_of home.part.cap root words) }
+{}
+
 /// No place is one of two objects or a root, and roots and places are among the words.
 pub fn objects_are_apart()
     ensures apart { (layout : Layout) (object other place : ℕ) → object < length layout.parts → other < length layout.parts → InRange (home layout object) place → InRange (home layout other) place → object ≡ other }
@@ -71,11 +80,11 @@ pub fn roots_are_pairs()
     ensures { (word : ℕ) → word ≡ pack (tag_of word) (low_of word) }
 {}
 
-/// Where the words taken settle a call, all versions with this root that have them give it one reply. Where two of
-/// them have different next states, each keeps its own state.
-pub fn settled_calls_stay()
+/// Where the words taken settle a call, all versions with this root that have them give it one reply, and for any own
+/// places that a seat may have one plan does for all of them.
+pub fn settled_calls_have_one_plan()
     ensures reply { (home : Home) (call : Call) (root : ℕ) (taken : List Taken) (words others : List ℕ) → IsSettled home call root taken → HasTaken home root taken words → HasTaken home root taken others → (effect home.part (decoded home root words) call).reply ≡ (effect home.part (decoded home root others) call).reply }
-    ensures state { (home : Home) (call : Call) (root : ℕ) (taken : List Taken) (words others : List ℕ) → IsSettled home call root taken → HasTaken home root taken words → HasTaken home root taken others → ((effect home.part (decoded home root words) call).state ≡ (effect home.part (decoded home root others) call).state → ⊥) → ((effect home.part (decoded home root words) call).state ≡ decoded home root words) × ((effect home.part (decoded home root others) call).state ≡ decoded home root others) }
+    ensures plan { (home : Home) (call : Call) (root : ℕ) (taken : List Taken) (own : List ℕ) → (settled : IsSettled home call root taken) → tag_of root + 1 < 2 ^ 40 → IsStock home own → ((place : ℕ) → 0 < times place own → InRange home place) → ((place : ℕ) → times place own ≤ 1) → HasPlan home call root taken own settled.reply }
 {}
 
 /// A walk over blocks serves each object of a layout that has block form, and each call that fits it.

@@ -1,13 +1,15 @@
 // The numbering of words and places.
 ghost use Rattle.rx_seq.specs.History.{part_at};
-ghost use Rattle.rx_seq.specs.Table.{IsPart, start_of};
-ghost use Rattle.rx_shape.specs.Forms.{IsBlock, IsVersion, decoded, stock_size};
+ghost use Rattle.rx_seq.specs.Table.{IsPart};
+ghost use Rattle.rx_shape.specs.Forms.{AreNodes, IsBlock, IsVersion, decoded, stock_size};
 ghost use Rattle.rx_shape.specs.Layout.{Layout as Numbering, AreEnds, IsLayout, all_places, first_place, home, place_after, places_of, root_of, words_of};
+ghost use Rattle.rx_shape.specs.Nodes.{first_of as first_in, values, walk};
 ghost use Rattle.rx_shape.specs.Places.{read_run};
-ghost use Rattle.rx_shape.specs.Start.{start_place, start_word};
+ghost use Rattle.rx_shape.specs.Start.{linked_at, start_at, start_place, start_word};
 ghost use Rattle.std.specs.List.{All};
-ghost use Rattle.std.specs.Prelude.{◌≡◌, ◌≤◌, ◌<◌, ◌+◌, ◌^◌, ◌==◌, if◌then◌else◌, IfOk, [], length, slice_index};
+ghost use Rattle.std.specs.Prelude.{◌≡◌, ◌≤◌, ◌<◌, ◌+◌, ◌^◌, IfOk, [], length, slice_index};
 
+use crate::nodes::{NO_PLACE, first_of, header, next_of, node, value_of};
 use crate::plans::MOST_PLACES;
 use crate::roots::{low_of, pack};
 use arrayvec::ArrayVec;
@@ -158,8 +160,10 @@ impl Layout {
         places_in(self.parts[object as usize], self.seats)
     }
 
-    /// The first value of a word: 0 for word 0, the first tag with the value 0 or the object's first place for a root,
-    /// and for a place the length of the object's first state or 0. It takes time that grows with the number of objects.
+    /// The first value of a word: 0 for word 0, and the first tag with the value 0 or the object's first place for a root.
+    /// The first place of registers has their number. That of a queue or a list has a header with no node, and as many spare
+    /// nodes as the capacity follow it, each linked to the next one. Every other place has 0. It takes time that grows with
+    /// the number of objects.
     pub fn start_word(&self, word: u32) -> u64
         requires { word < words_of self.now }
         ensures { result ≡ start_word self.now word }
@@ -202,33 +206,62 @@ impl Layout {
     {
         let low = low_of(words[object as usize + 1]);
         state.clear();
-        match self.parts[object as usize].kind {
+        let part = self.parts[object as usize];
+        match part.kind {
             Kind::Cell => state.push(low),
-            _ => read_block(words, low, state),
+            Kind::Queue | Kind::List => read_nodes(words, low, part.cap, state),
+            Kind::Registers => read_block(words, low, state),
         }
     }
 }
 
 /// The first value of a place of an object that has its places from the first one on.
 fn start_value(part: Part, first: u32, place: u32) -> u64
-    requires { IsPart part }
-    ensures { result ≡ (if place == first then length (start_of part) else 0) }
+    requires part { IsPart part }
+    requires place { place < 67617 }
+    requires from { first ≤ place }
+    ensures { result ≡ start_at (record { part = part; first = first; count = 0 }) place }
+{
+    match part.kind {
+        Kind::Cell => 0,
+        Kind::Queue | Kind::List => start_link(first, part.cap, place),
+        Kind::Registers if place == first => u64::from(part.cap),
+        Kind::Registers => 0,
+    }
+}
+
+/// The first value of a place of nodes, which are all spare.
+fn start_link(first: u32, cap: u32, place: u32) -> u64
+    requires cap { cap ≤ 64 }
+    requires place { place < 67617 }
+    requires from { first ≤ place }
+    ensures { result ≡ linked_at first cap place }
 {
     if place == first {
-        start_length(part)
+        header(NO_PLACE, first + 1)
+    } else if place < first + cap {
+        node(0, place + 1)
+    } else if place == first + cap {
+        node(0, NO_PLACE)
     } else {
         0
     }
 }
 
-/// How many numbers the first state of a part has.
-fn start_length(part: Part) -> u64
-    ensures { result ≡ length (start_of part) }
+/// Adds the values of the nodes that the header at a place leads to, to an empty state.
+fn read_nodes(words: &[u64], low: u32, cap: u32, state: &mut State)
+    requires empty { state.old.items ≡ [] }
+    requires nodes { AreNodes words.now low cap }
+    ensures { state.new.items ≡ values words.now (walk cap words.now (first_in (slice_index words.now low))) }
 {
-    match part.kind {
-        Kind::Cell => 1,
-        Kind::Queue | Kind::List => 0,
-        Kind::Registers => u64::from(part.cap),
+    let mut place = first_of(words[low as usize]);
+    for _turn in 0..cap {
+        if place == NO_PLACE {
+            return;
+        }
+        let word = words[place as usize];
+        state.push(value_of(word));
+        place = next_of(word);
     }
 }
 

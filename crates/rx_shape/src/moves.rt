@@ -1,4 +1,4 @@
-// Plans of a block: it stays as it is, or its next state moves into the own block.
+// Plans of a block that moves its next state into the own block.
 ghost use Rattle.rx_shape.specs.Moves.{block_pairs, block_writes};
 ghost use Rattle.rx_shape.specs.Words.{low_of as low_in, pack as packed, tag_of as tag_in};
 ghost use Rattle.std.specs.Prelude.{◌≡◌, ◌+◌, ◌<◌, ◌≤◌, ◌^◌, [], length, slice_index};
@@ -6,17 +6,6 @@ ghost use Rattle.std.specs.Prelude.{◌≡◌, ◌+◌, ◌<◌, ◌≤◌, ◌^
 use crate::plans::{MOST_PLACES, Pair, Plan, Write};
 use crate::roots::{low_of, pack, tag_of};
 use arrayvec::ArrayVec;
-
-/// The plan of a quiet call: the root that was there, and nothing is written or traded. It takes constant time.
-pub(crate) fn stay(root: u64, out: &mut Plan)
-    ensures root { out.new.root ≡ root }
-    ensures writes { out.new.writes.items ≡ [] }
-    ensures pairs { out.new.trade.pairs.items ≡ [] }
-{
-    out.root = root;
-    out.writes.clear();
-    out.trade.pairs.clear();
-}
 
 /// The plan of a loud call that makes this state: it is written into the own block, which trades places with the old
 /// one, and the tag is the next one. It takes time that grows with the state and the block.

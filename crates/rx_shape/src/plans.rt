@@ -1,4 +1,5 @@
 // What an attempt reads, writes and trades.
+ghost use Rattle.std.specs.Prelude.{◌≡◌, []};
 
 use arrayvec::ArrayVec;
 
@@ -41,6 +42,19 @@ pub struct Plan {
     pub root: u64,
     pub writes: ArrayVec<Write, MOST_PLACES>,
     pub trade: Trade,
+}
+
+impl Plan {
+    /// Makes it the plan of a quiet call: the root that was there, and nothing is written or traded. It takes constant time.
+    pub fn stay(&mut self, root: u64)
+        ensures root { self.new.root ≡ root }
+        ensures writes { self.new.writes.items ≡ [] }
+        ensures pairs { self.new.trade.pairs.items ≡ [] }
+    {
+        self.root = root;
+        self.writes.clear();
+        self.trade.pairs.clear();
+    }
 }
 
 /// What an attempt needs next.

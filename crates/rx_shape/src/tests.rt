@@ -1,4 +1,4 @@
-// Words of a small layout, and attempts on a cell and on blocks.
+// Words of a small layout, and attempts on a cell and on registers.
 ghost use Rattle.rx_seq.specs.Table.{IsPart};
 ghost use Rattle.rx_shape.specs.Forms.{block, form_of};
 ghost use Rattle.rx_shape.specs.Places.{run};
@@ -32,6 +32,27 @@ fn words_of_a_layout(rt: HostRuntime) -> Result<(), Fail> {
     assert_eq!(rt; layout.places(1), 9);
     assert_eq!(rt; layout.start_word(2), 83_886_083);
     assert_eq!(rt; layout.start_word(3), 2);
+    Ok(())
+}
+
+#[test]
+fn words_of_nodes(rt: HostRuntime) -> Result<(), Fail> {
+    let word = node(5, 12);
+    assert_eq!(rt; word, 83_886_092);
+    assert_eq!(rt; value_of(word), 5);
+    assert_eq!(rt; next_of(word), 12);
+    let word = header(11, NO_PLACE);
+    assert_eq!(rt; first_of(word), 11);
+    assert_eq!(rt; spare_of(word), NO_PLACE);
+    let parts = [Part {
+        kind: Kind::Queue,
+        cap: 2,
+    }];
+    let layout = Layout::new(rt.alloc(), &parts, 1, 0).map_err(|_| "no memory")?;
+    assert_eq!(rt; layout.start_word(2), header(NO_PLACE, 3));
+    assert_eq!(rt; layout.start_word(3), node(0, 4));
+    assert_eq!(rt; layout.start_word(4), node(0, NO_PLACE));
+    assert_eq!(rt; layout.start_word(5), 0);
     Ok(())
 }
 
@@ -157,69 +178,6 @@ fn writes(plan: &Plan, values: &[u64]) -> bool {
         }
     }
     true
-}
-
-#[test]
-fn attempts_on_a_queue(rt: HostRuntime) {
-    let queue = Part {
-        kind: Kind::Queue,
-        cap: 2,
-    };
-    let mut plan = no_plan();
-    let put = Call::Put { v: 7 };
-    let found = attempt(queue, put, &[1, 5], &mut plan);
-    assert_eq!(rt; found, (2, Some(Reply::Done { v: 2 })));
-    assert_eq!(rt; plan.root, pack(8, 13));
-    assert!(rt; writes(&plan, &[2, 5, 7]));
-    assert_eq!(rt; plan.trade.pairs.len(), 3);
-    let found = attempt(queue, put, &[2, 5, 6], &mut plan);
-    assert_eq!(rt; found, (1, Some(Reply::Full)));
-    assert_eq!(rt; plan.root, pack(7, 10));
-    assert_eq!(rt; plan.writes.len(), 0);
-    assert_eq!(rt; plan.trade.pairs.len(), 0);
-    let found = attempt(queue, Call::Take, &[2, 5, 6], &mut plan);
-    assert_eq!(rt; found, (3, Some(Reply::Done { v: 5 })));
-    assert!(rt; writes(&plan, &[1, 6]));
-    let found = attempt(queue, Call::Take, &[0, 5], &mut plan);
-    assert_eq!(rt; found, (1, Some(Reply::Empty)));
-    assert_eq!(rt; attempt(queue, put, &[3, 5, 6], &mut plan), (1, None));
-    assert_eq!(rt;
-        attempt(queue, put, &[1, 4_294_967_296], &mut plan),
-        (2, None)
-    );
-}
-
-#[test]
-fn attempts_on_a_list(rt: HostRuntime) {
-    let list = Part {
-        kind: Kind::List,
-        cap: 3,
-    };
-    let mut plan = no_plan();
-    let found = attempt(list, Call::Insert { k: 7 }, &[2, 3, 9], &mut plan);
-    assert_eq!(rt; found, (3, Some(Reply::Added)));
-    assert!(rt; writes(&plan, &[3, 3, 7, 9]));
-    let found = attempt(list, Call::Insert { k: 3 }, &[2, 3, 9], &mut plan);
-    assert_eq!(rt; found, (2, Some(Reply::Present)));
-    let full = [3, 3, 9, 12];
-    let found = attempt(list, Call::Insert { k: 4 }, &full, &mut plan);
-    assert_eq!(rt; found, (3, Some(Reply::Full)));
-    let found = attempt(list, Call::Insert { k: 13 }, &full, &mut plan);
-    assert_eq!(rt; found, (4, Some(Reply::Full)));
-    assert_eq!(rt; plan.writes.len(), 0);
-    let found = attempt(list, Call::Remove { k: 3 }, &full, &mut plan);
-    assert_eq!(rt; found, (4, Some(Reply::Removed)));
-    assert!(rt; writes(&plan, &[2, 9, 12]));
-    let found = attempt(list, Call::Remove { k: 4 }, &full, &mut plan);
-    assert_eq!(rt; found, (3, Some(Reply::Absent)));
-    let found = attempt(list, Call::Has { k: 3 }, &full, &mut plan);
-    assert_eq!(rt; found, (2, Some(Reply::Yes)));
-    let found = attempt(list, Call::Has { k: 1 }, &full, &mut plan);
-    assert_eq!(rt; found, (2, Some(Reply::No)));
-    let found = attempt(list, Call::Has { k: 1 }, &[0], &mut plan);
-    assert_eq!(rt; found, (1, Some(Reply::No)));
-    let found = attempt(list, Call::Has { k: 13 }, &[3, 9, 3, 12], &mut plan);
-    assert_eq!(rt; found, (3, None));
 }
 
 #[test]

@@ -1,10 +1,12 @@
 use Rattle.std.proofs.Common.{arith, inl, inr}
-use Rattle.rx_seq.specs.Table.{effect}
+use Rattle.rx_seq.proofs.Kept.{state_kept}
 use Rattle.rx_shape.specs.Words.{low_of as low_in}
-use Rattle.rx_shape.specs.Settled.{answered, stayed}
 use Rattle.rx_shape.specs.Walks.{numbers_of}
-use Rattle.rx_shape.proofs.BlockForm.{size_block}
-use Rattle.rx_shape.proofs.BlockWants.{length-at_run, stale_none, stale_far, stays_kept, settled_whole, open_few}
+use Rattle.rx_shape.proofs.Quiet.{no_set}
+use Rattle.rx_shape.proofs.Staying.{settled_stay, quiet_stay}
+use Rattle.rx_shape.proofs.BlockForm.{no_cell, size_block}
+use Rattle.rx_shape.proofs.BlockPlans.{settled_by_whole}
+use Rattle.rx_shape.proofs.BlockWants.{length-at_run, stale_none, stale_far, stays_kept, state_whole, open_few}
 use Rattle.rx_shape.proofs.blocks.BlocksShape.want.Goals as goal
 
 pub returns-then-low-self-clause-wants : goal.returns-then-low-self-clause-wants
@@ -28,8 +30,15 @@ returns-in-Broken-clause-wants c = stale_none c.args.self.now.home c.args.self.n
 
 pub returns-in-Kept-clause-wants : goal.returns-in-Kept-clause-wants
 returns-in-Kept-clause-wants c =
-    let home = c.args.self.now.home in let words = c.args.self.now.words.items in
+    let home = c.args.self.now.home in let words = c.args.self.now.words.items in let call = c.args.self.now.call in let form = c.args.self.now.form in
     elim c.in-Kept.is [
-      | inl kept ↦ stayed kept.0 (stays_kept home c.args.self.now.form c.args.root words c.args.self.now.call kept.0 (c.args.self.now.says.kept kept.0 kept.1))
-      | inr whole ↦ answered (effect home.part (numbers_of words) c.args.self.now.call) (settled_whole home c.args.self.now.form c.args.root words c.args.self.now.call (c.args.self.now.says.whole whole))
+      | inl kept ↦
+          let stays = stays_kept home form c.args.root words call kept.0 (c.args.self.now.says.kept kept.0 kept.1) in
+          settled_stay home call c.args.root _ kept.0 stays (quiet_stay home call c.args.root _ kept.0 stays c.quiet_calls_stay.ensures.only c.args.self.now.fits (no_set home.part.kind home.part.cap call (no_cell home.part.kind form) c.args.self.now.fits))
+      | inr all ↦
+          let whole = c.args.self.now.says.whole all in
+          let state = state_whole home.part form words whole in
+          settled_by_whole home form c.args.self.now.limits c.args.self.now.places c.args.root words call whole
+          (state_kept home.part (numbers_of words) call state c.args.self.now.fits)
+          (c.quiet_calls_stay.ensures.quiet home.part (numbers_of words) call state c.args.self.now.fits)
     ]
