@@ -1,0 +1,11 @@
+mod Paths
+mod Holding
+mod Copying
+mod Additions
+mod Removals
+mod Wanting
+mod Facts
+mod Stepping
+mod Ending
+mod Written
+mod Planned

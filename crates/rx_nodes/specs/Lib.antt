@@ -1,0 +1,3 @@
+pub mod Copies
+pub mod Chains
+pub mod Rows
