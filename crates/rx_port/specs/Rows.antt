@@ -158,8 +158,8 @@ keeper = record (newcomer small None 0 None) { joined = record { number = 1; see
 pub kept_once : total (joined_in 1) (keeper ∷ joined_away ∷ []) ≡ 1
 kept_once = refl
 
--- A seat puts 42 into an empty queue of one number: it loads the root, reads the length, writes a block of its own and
--- exchanges the root
+-- A seat puts 42 into an empty queue of one number: it loads the root, reads the header and the spare node, writes a header
+-- and a node of its own and exchanges the root
 abbrev one_queue : Layout
 one_queue = record { parts = record { kind = Queue; cap = 1 } ∷ []; seats = 1; first = 0 }
 
@@ -167,42 +167,49 @@ abbrev putting : Attempt
 putting = new_attempt 0 (Put 42) 2
 
 abbrev queue_at_start : Core
-queue_at_start = record { words = 0 ∷ 2 ∷ 0 ∷ 0 ∷ 0 ∷ 0 ∷ []; views = seated one_queue 1; counts = Some no_counts }
+queue_at_start = record { words = 0 ∷ 2 ∷ 281474959933443 ∷ 16777215 ∷ 0 ∷ 0 ∷ []; views = seated one_queue 1; counts = Some no_counts }
 
-pub queue_words_at_start : start_word one_queue 1 ∷ start_word one_queue 2 ∷ start_word one_queue 4 ∷ [] ≡ 2 ∷ 0 ∷ 0 ∷ []
+pub queue_words_at_start : start_word one_queue 1 ∷ start_word one_queue 2 ∷ start_word one_queue 3 ∷ start_word one_queue 4 ∷ [] ≡ 2 ∷ 281474959933443 ∷ 16777215 ∷ 0 ∷ []
 queue_words_at_start = refl
 
 pub owned_at_start : own_of (view_at queue_at_start 0) 0 ≡ 4 ∷ 5 ∷ []
 owned_at_start = refl
 
--- the length is 0
-abbrev length_read : View
-length_read = read_view (begun_view [] (view_at queue_at_start 0) 0 (Put 42) 2) putting (record { place = 2; word = 0 })
+-- the header leads to no node, and to the spare one at place 3
+abbrev header_read : View
+header_read = read_view (begun_view [] (view_at queue_at_start 0) 0 (Put 42) 2) putting (record { place = 2; word = 281474959933443 })
 
-pub read_so_far : length_read.attempt ≡ Some (record { object = 0; call = Put 42; expected = 2; reads = record { place = 2; word = 0 } ∷ []; writes = [] })
+pub read_so_far : header_read.attempt ≡ Some (record { object = 0; call = Put 42; expected = 2; reads = record { place = 2; word = 281474959933443 } ∷ []; writes = [] })
 read_so_far = refl
 
--- the own block gets the length and the number
+-- which leads to none
+abbrev one_read : Attempt
+one_read = with_read (record { place = 2; word = 281474959933443 }) putting
+
+abbrev both_read : View
+both_read = read_view header_read one_read (record { place = 3; word = 16777215 })
+
+-- the own header leads to the own node, and that to none
 abbrev after_write : Core
 after_write =
-    let one : Core = stored queue_at_start 4 1 0 (view_at queue_at_start 0) in
-    stored one 5 42 0 (view_at one 0)
+    let one : Core = stored queue_at_start 4 100663295 0 (view_at queue_at_start 0) in
+    stored one 5 721420287 0 (view_at one 0)
 
-pub written_words : after_write.words ≡ 0 ∷ 2 ∷ 0 ∷ 0 ∷ 1 ∷ 42 ∷ []
+pub written_words : after_write.words ≡ 0 ∷ 2 ∷ 281474959933443 ∷ 16777215 ∷ 100663295 ∷ 721420287 ∷ []
 written_words = refl
 
 pub written_counts : after_write.counts ≡ Some (record { loads = 0; stores = 2; exchanges = 0 })
 written_counts = refl
 
-pub written_so_far : (written_view length_read (with_read (record { place = 2; word = 0 }) putting) (record { own = 0; value = 1 })).attempt
-    ≡ Some (record { object = 0; call = Put 42; expected = 2; reads = record { place = 2; word = 0 } ∷ []; writes = record { own = 0; value = 1 } ∷ [] })
+pub written_so_far : (written_view both_read (with_read (record { place = 3; word = 16777215 }) one_read) (record { own = 0; value = 100663295 })).attempt
+    ≡ Some (record { object = 0; call = Put 42; expected = 2; reads = record { place = 2; word = 281474959933443 } ∷ record { place = 3; word = 16777215 } ∷ []; writes = record { own = 0; value = 100663295 } ∷ [] })
 written_so_far = refl
 
--- the new root has the tag 1 and names the block at place 4, and the seat owns the block that was there
+-- the new root has the tag 1 and names the header at place 4, and the seat owns the header and the spare node that were there
 abbrev put_done : Core
 put_done = exchanged after_write 0 (if root_of after_write.words 0 == 2 then 16777220 else 2) 0 (decided_view true [] (entry_for one_queue [] 0 0 (Put 42)) (view_at after_write 0) putting 2 (record { own = 0; place = 2 } ∷ record { own = 1; place = 3 } ∷ []))
 
-pub put_words : put_done.words ≡ 0 ∷ 16777220 ∷ 0 ∷ 0 ∷ 1 ∷ 42 ∷ []
+pub put_words : put_done.words ≡ 0 ∷ 16777220 ∷ 281474959933443 ∷ 16777215 ∷ 100663295 ∷ 721420287 ∷ []
 put_words = refl
 
 pub put_owned : own_of (view_at put_done 0) 0 ≡ 2 ∷ 3 ∷ []

@@ -15,7 +15,7 @@ use crate::ports::Port;
 use crate::seat_states;
 use crate::seat_states::SeatState;
 use crate::starts::{start_seats, start_words};
-use crate::trades::place_at;
+use crate::trades::{place_at, places_at};
 use crate::views::Counts;
 use rx_seq::{Call, NoMemory, State};
 use rx_shape::{Layout, Taken, Trade, Write, tag_of};
@@ -160,6 +160,10 @@ impl Port for Bank {
 
     fn own(&self, seat: &u32, object: u32, own: u32) -> u32 {
         place_at(&self.seats[*seat as usize].own, object, own)
+    }
+
+    fn owned<'a>(&'a self, seat: &'a u32, object: u32) -> &'a [u32] {
+        places_at(&self.seats[*seat as usize].own, object)
     }
 
     ghost room_less = { λ n b h. less_room n b.core h };

@@ -15,5 +15,5 @@ mod views;
 pub use banks::Bank;
 pub use ports::Port;
 pub use starts::{own_of_seat, start_words};
-pub use trades::{place_at, trade_at};
+pub use trades::{place_at, places_at, trade_at};
 pub use views::{Attempt, Core, Counts, Exchange, Joined, Known, View};

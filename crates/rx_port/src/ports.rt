@@ -98,6 +98,13 @@ pub trait Port {
         requires below { own < stock_size (part_at (layout self.now).parts object) }
         ensures { result ≡ slice_index (own_of (view self.now seat.now) object) own };
 
+    /// All places that the seat owns of the object, in the order of their numbers: none of a cell. It makes no event, and
+    /// takes constant time.
+    fn owned<'a>(&'a self, seat: &'a Self::Seat, object: u32) -> &'a [u32]
+        requires ours { ours self.now seat.now }
+        requires exists { object < length (layout self.now).parts }
+        ensures { result.now ≡ own_of (view self.now seat.now) object };
+
     // Where more events have room, fewer have.
     ghost room_less: { (n : ℕ) (port : Self) → room (n + 1) port → room n port };
 

@@ -16,6 +16,14 @@ pub fn place_at(own: &Vec<Vec<u32>>, object: u32, number: u32) -> u32
     mine[number as usize]
 }
 
+/// The own places of an object, in the order of their numbers. It takes constant time.
+pub fn places_at(own: &Vec<Vec<u32>>, object: u32) -> &[u32]
+    requires { object < length (lists own.now.items) }
+    ensures { result.now ≡ slice_index_or (lists own.now.items) object [] }
+{
+    own[object as usize].as_slice()
+}
+
 /// Makes each named own place the given one.
 fn trade(own: &mut Vec<u32>, pairs: &[Pair])
     requires { EachBelow (length own.old.items) pairs.now }

@@ -9,7 +9,7 @@ ghost use Rattle.std.specs.Prelude.{◌≡◌, ◌<◌, [], length, slice_index_
 use crate::rules::Words;
 use crate::seats::Seat;
 use crate::steps::{begin, decide, read, write};
-use rx_port::{Port, place_at, trade_at};
+use rx_port::{Port, place_at, places_at, trade_at};
 use rx_seq::Call;
 use rx_shape::{Pair, Trade};
 use std::marker::{Brand, Model};
@@ -76,6 +76,10 @@ impl<'a> Port for SharedPort<'a> {
 
     fn own(&self, seat: &Seat, object: u32, own: u32) -> u32 {
         place_at(&seat.own, object, own)
+    }
+
+    fn owned<'b>(&'b self, seat: &'b Seat, object: u32) -> &'b [u32] {
+        places_at(&seat.own, object)
     }
 
     ghost room_less = { λ n p h. h };
