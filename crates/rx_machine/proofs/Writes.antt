@@ -3,7 +3,7 @@ use Rattle.std.proofs.Common.{◌≡◌, ℕ, ◌+◌, ◌<◌, ◌≤◌, inr, 
 use Rattle.std.specs.Prelude.{Some, IfSome}
 use Rattle.std.proofs.lemmas.List.{length-take-le}
 use Rattle.rx_shape.specs.declared.plans.Write.{Write}
-use Rattle.rx_shape.specs.Forms.{Form, inline, block, form_of, stock_as, stock_size}
+use Rattle.rx_shape.specs.Forms.{Form, inline, block, node, form_of, stock_as, stock_size}
 use Rattle.rx_shape.specs.Asks.{IsPlanned}
 use Rattle.rx_shape.specs.Layout.{Layout}
 use Rattle.rx_shape.specs.Versions.{NotWritten}
@@ -36,6 +36,7 @@ fits_by Registers cap r k n few below most = omega arith
 stock_as_few : (f : Form) (cap : ℕ) → stock_as f cap ≤ cap + 1
 stock_as_few inline cap = omega arith
 stock_as_few block cap = omega arith
+stock_as_few node cap = omega arith
 
 module _ (l : Layout) (v : View) (state : MachineState) (h : IsGoing l v state) (w : Write) (next : IsNextWrite state w) where
   once : (w.own < stock_size state.home.part) × NotWritten w.own (take state.written state.plan.writes.items)

@@ -87,7 +87,7 @@ pub record IsRunning (state : MachineState) : Type 0 where
 pub record IsMachineState (state : MachineState) : Type 0 where
   pub part : IsPart state.home.part
   pub fits : fits_part state.home.part state.call ≡ true
-  pub places : state.home.first + state.home.count ≤ 16777216
+  pub places : state.home.first + state.home.count ≤ 16777215
   pub steps : state.steps ≡ attempt_steps state.home.part
   pub running : 0 < state.made → IsRunning state
 

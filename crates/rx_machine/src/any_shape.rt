@@ -3,14 +3,16 @@ ghost use Rattle.rx_machine.specs.AnyShapes.{IsServed, any_asked, any_home, any_
 ghost use Rattle.std.specs.Prelude.{ℕ, ◌≡◌, []};
 
 use arrayvec::ArrayVec;
+use rx_nodes::Nodes;
 use rx_seq::{Call, Kind, Part, Reply};
 use rx_shape::{Blocks, Inline, MOST_PLACES, Plan, Shape, Want};
 
-/// An attempt on a cell, or on an object in block form.
+/// An attempt on a cell, on registers in block form, or on a queue or a list of linked nodes.
 #[derive(Drop)]
 pub enum AnyShape {
     Cell(Inline),
     Block(Blocks),
+    Linked(Nodes),
 }
 
 impl AnyShape {
@@ -31,7 +33,13 @@ impl AnyShape {
                 }
             }
             AnyShape::Block(shape) => {
-                if part.kind != Kind::Cell {
+                if part.kind == Kind::Registers {
+                    shape.restart(part, call, first, count);
+                    return;
+                }
+            }
+            AnyShape::Linked(shape) => {
+                if part.kind == Kind::Queue || part.kind == Kind::List {
                     shape.restart(part, call, first, count);
                     return;
                 }
@@ -57,7 +65,8 @@ impl Shape for AnyShape {
     fn start(part: Part, call: Call, first: u32, count: u32) -> AnyShape {
         match part.kind {
             Kind::Cell => AnyShape::Cell(Inline::start(part, call, first, count)),
-            _ => AnyShape::Block(Blocks::start(part, call, first, count)),
+            Kind::Registers => AnyShape::Block(Blocks::start(part, call, first, count)),
+            Kind::Queue | Kind::List => AnyShape::Linked(Nodes::start(part, call, first, count)),
         }
     }
 
@@ -65,6 +74,7 @@ impl Shape for AnyShape {
         match self {
             AnyShape::Cell(shape) => shape.want(root),
             AnyShape::Block(shape) => shape.want(root),
+            AnyShape::Linked(shape) => shape.want(root),
         }
     }
 
@@ -72,6 +82,7 @@ impl Shape for AnyShape {
         match self {
             AnyShape::Cell(shape) => shape.take(word),
             AnyShape::Block(shape) => shape.take(word),
+            AnyShape::Linked(shape) => shape.take(word),
         }
     }
 
@@ -80,6 +91,7 @@ impl Shape for AnyShape {
         match self {
             AnyShape::Cell(shape) => shape.plan(root, own, out),
             AnyShape::Block(shape) => shape.plan(root, own, out),
+            AnyShape::Linked(shape) => shape.plan(root, own, out),
         }
     }
 }

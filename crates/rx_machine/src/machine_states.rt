@@ -58,7 +58,7 @@ pub fn home_of(layout: &Layout, object: u32) -> Home
     requires { object < length layout.now.parts }
     ensures place { result ≡ place_of layout.now object }
     ensures part { IsPart result.part }
-    ensures places { result.first + result.count ≤ 16777216 }
+    ensures places { result.first + result.count ≤ 16777215 }
 {
     Home {
         part: layout.parts()[object as usize],
@@ -71,7 +71,7 @@ pub fn home_of(layout: &Layout, object: u32) -> Home
 pub fn start(home: Home, object: u32, call: Call) -> MachineState
     requires part { IsPart home.part }
     requires fits { fits_part home.part call ≡ true }
-    requires places { home.first + home.count ≤ 16777216 }
+    requires places { home.first + home.count ≤ 16777215 }
     ensures operation { operation_of result ≡ fresh home object call }
     ensures state { IsMachineState result }
 {
@@ -102,7 +102,7 @@ pub fn start(home: Home, object: u32, call: Call) -> MachineState
 pub fn restart(state: &mut MachineState, home: Home, object: u32, call: Call)
     requires part { IsPart home.part }
     requires fits { fits_part home.part call ≡ true }
-    requires places { home.first + home.count ≤ 16777216 }
+    requires places { home.first + home.count ≤ 16777215 }
     ensures operation { operation_of state.new ≡ fresh home object call }
     ensures state { IsMachineState state.new }
 {
@@ -170,22 +170,16 @@ fn read<P: Port>(state: &mut MachineState, port: &mut P, seat: &mut P::Seat, pla
 }
 
 /// Makes `own` the places that the seat owns of an object, in the order of their numbers.
-fn collect<P: Port>(
-    port: &P,
-    seat: &P::Seat,
-    object: u32,
-    count: u32,
-    own: &mut ArrayVec<u32, MOST_PLACES>,
-)
+fn collect<P: Port>(port: &P, seat: &P::Seat, object: u32, own: &mut ArrayVec<u32, MOST_PLACES>)
     requires ours { P.ours port.now seat.now }
     requires exists { object < length (P.layout port.now).parts }
-    requires count { count ≡ stock_size (part_at (P.layout port.now).parts object) }
-    requires few { count ≤ MOST_PLACES }
+    requires few { stock_size (part_at (P.layout port.now).parts object) ≤ MOST_PLACES }
     ensures { own.new.items ≡ own_of (P.view port.now seat.now) object }
 {
     own.clear();
-    for number in 0..count {
-        own.push(port.own(seat, object, number));
+    let owned = port.owned(seat, object);
+    if !owned.is_empty() {
+        let _all = own.try_extend_from_slice(owned);
     }
 }
 
@@ -197,8 +191,7 @@ fn plan<P: Port>(state: &mut MachineState, port: &P, seat: &P::Seat)
     requires ours { P.ours port.now seat.now }
     ensures { HasSettled (P.layout port.now) (P.view port.now seat.now) state.old state.new }
 {
-    let count = stock(state.home.part);
-    collect(port, seat, state.object, count, &mut state.own);
+    collect(port, seat, state.object, &mut state.own);
     state.reply = state.shape.plan(state.root, &state.own, &mut state.plan);
     state.written = 0;
     state.stage = Stage::Writing;

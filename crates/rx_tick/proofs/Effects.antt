@@ -7,9 +7,9 @@ use Rattle.rx_seq.specs.History.{part_at}
 use Rattle.rx_set.specs.declared.jobs.Job.{Job}
 use Rattle.rx_shape.specs.declared.homes.Home.{Home}
 use Rattle.rx_shape.specs.declared.plans.Pair.{Pair}
-use Rattle.rx_shape.specs.Forms.{Form, inline, block, form_of, stock_as, stock_size, IsStock, IsStockAs}
+use Rattle.rx_shape.specs.Forms.{stock_size}
 use Rattle.rx_shape.specs.Layout.{Layout, home}
-use Rattle.rx_shape.proofs.Times.{length-run}
+use Rattle.rx_shape.proofs.Local.{stock_many}
 use Rattle.rx_port.specs.Events.{Begun, DidRead, DidWrite, Decided, OwnsWell}
 use Rattle.rx_port.specs.declared.views.Attempt.{Attempt}
 use Rattle.rx_port.specs.declared.views.Counts.{Counts}
@@ -32,15 +32,6 @@ pub record Does (slot : Slot) (touch : Touch) (seat : ℕ) (after : List Entry) 
 
 touch_nothing : (touch : Touch) → touch ≡ Load → touch ≡ Nothing → ⊥
 touch_nothing touch e f = cc
-
--- a seat owns as many places of an object as a stock has
-stock_long : (form : Form) (at : Home) (own : List ℕ) → IsStockAs form at own → length own ≡ stock_as form at.part.cap
-stock_long inline at own h = ap (λ (xs : List ℕ). length xs) h
-stock_long block at own h = ap (λ (xs : List ℕ). length xs) h ∙ length-run (slice_index own 0) (suc at.part.cap)
-
-own_long : (at : Home) (own : List ℕ) → IsStock at own → length own ≡ stock_size at.part
-unfolding IsStock
-own_long at own h = stock_long (form_of at.part.kind) at own h
 
 module _ (slot : Slot) (old new : Whole) (seat : ℕ) (before after : View) (past : List Entry) (layout : new.layout ≡ old.layout) where
   lawful_as : (next : List Entry) → Lawful old.layout new.core.words new.core.views next → Lawful new.layout new.core.words new.core.views next
@@ -77,7 +68,7 @@ module _ (slot : Slot) (old new : Whole) (seat : ℕ) (before after : View) (pas
       → Moves old.layout old.core new.core seat after (λ h. h) → Lawful old.layout old.core.words old.core.views past → Does slot Store seat past old new
   write_does mine attempt own value has seat_is before_is owns exists below event moves lawful =
       let view_is : before ≡ view_at old.core mine.task = before_is ∙ ap (view_at old.core) seat_is in
-      let long = own_long (home old.layout attempt.object) (own_of before attempt.object) (owns.owns.stocks attempt.object exists) in
+      let long = stock_many (home old.layout attempt.object) (own_of before attempt.object) (owns.owns.stocks attempt.object exists) in
       record {
         layout = layout;
         rise = sym (ap (λ (core : Core). core.counts) event.after) ∙ ap (λ (core : Core). option_map one_store core.counts) event.found.stands;
