@@ -1,6 +1,6 @@
 # awk -v words='lanes K J' -f lanes-order.awk INPUT OUTPUT: whether `lanes K J` may write this output of this input, whose
-# objects are cells and queues. In the input each row stands on a line of its own, as `{name="c", kind="cell"},`,
-# `{name="q", kind="queue", capacity=4},` and `{name="t", period=9, body=["add c 1", "take q"]},`.
+# objects are cells, queues and lists. In the input each row stands on a line of its own, as `{name="c", kind="cell"},`,
+# `{name="q", kind="queue", capacity=4},`, `{name="l", kind="list", capacity=4},` and `{name="t", period=9, body=["add c 1", "take q"]},`.
 #
 # Each task makes the operations of its jobs, once and in order. The tag of each object counts the calls on it that are loud;
 # one that changes nothing is quiet and has the tag that it finds. Each reply is the one that the lines above make. Of the
@@ -13,8 +13,28 @@ function fault(text) {
   exit 1
 }
 
+# the reply of the call on a list, which is made; and whether the call is quiet with it
+function reply_of_list(list, call, k,   at, count, there, values) {
+  count = split(state[list], values, " ")
+  for (at = 1; at <= count && values[at] + 0 < k + 0; at++);
+  there = at <= count && values[at] + 0 == k + 0
+  quiet = 1
+  if (call == "has") return there ? "yes" : "no"
+  if (call == "insert" && there) return "present"
+  if (call == "insert" && count == capacity[list]) return "full"
+  if (call == "remove" && !there) return "absent"
+  quiet = 0
+  held[list] = count + (call == "insert" ? 1 : -1)
+  values[at] = call == "remove" ? "" : k + 0 (at <= count ? " " values[at] : "")
+  state[list] = ""
+  for (at = 1; at in values; at++)
+    if (values[at] != "") state[list] = state[list] (state[list] == "" ? "" : " ") values[at]
+  return call == "insert" ? "added" : "removed"
+}
+
 # the reply of the call on an object, which is made; and whether the call is quiet with it
 function reply(cell, call, one, two) {
+  if (call == "insert" || call == "remove" || call == "has") return reply_of_list(cell, call, one)
   quiet = 1
   if (call == "put" && held[cell] == capacity[cell]) return "full"
   if (call == "take" && !held[cell]) return "empty"
@@ -40,7 +60,7 @@ function reply(cell, call, one, two) {
 # The operations of each task, by their number from 1, each with the number of its item.
 NR == FNR {
   parts = split($0, part, "\"")
-  if (part[4] == "cell" || part[4] == "queue") {
+  if (part[4] == "cell" || part[4] == "queue" || part[4] == "list") {
     objects[++object_count] = part[2]
     kind[part[2]] = part[4]
     state[part[2]] = part[4] == "cell" ? 0 : ""

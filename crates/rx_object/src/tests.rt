@@ -85,7 +85,8 @@ fn done(reply: Reply, tag: u64) -> Option<Outcome> {
     })
 }
 
-// A list of the greatest capacity is filled, and changes at both ends. A call that changes nothing keeps the tag.
+// A list of the greatest capacity is filled, and changes at both ends. A call that changes nothing keeps the tag. Then each
+// of its numbers is taken out and put back.
 #[test]
 fn longest_list(rt: HostRuntime) -> Result<(), Fail> {
     let mut opened = match table_of(rt.alloc(), part(Kind::List, 64), 1, 0) {
@@ -116,10 +117,17 @@ fn longest_list(rt: HostRuntime) -> Result<(), Fail> {
         call(&mut opened, 0, Call::Has { k: 0 }),
         done(Reply::No, 66)
     );
+    for k in 1..65u32 {
+        let tag = u64::from(k) * 2 + 65;
+        let removed = call(&mut opened, 0, Call::Remove { k: 10 * k });
+        assert_eq!(rt; removed, done(Reply::Removed, tag));
+        let added = call(&mut opened, 0, Call::Insert { k: 10 * k });
+        assert_eq!(rt; added, done(Reply::Added, tag + 1));
+    }
     let Some((tag, state)) = close(rt.alloc(), opened) else {
         return Err("no memory".into());
     };
-    assert_eq!(rt; tag, 66);
+    assert_eq!(rt; tag, 194);
     assert_eq!(rt; state.len(), 64);
     assert_eq!(rt; state.first(), Some(&10));
     assert_eq!(rt; state.last(), Some(&640));
