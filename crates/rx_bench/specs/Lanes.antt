@@ -1,21 +1,21 @@
 -- What a thread did with its seat.
 use Rattle.std.specs.Prelude.{ℕ, ◌≡◌, ◌+◌, ◌≤◌, List, [], ◌∷◌, ◌++◌, length, Some}
 use Rattle.std.specs.List.{All}
-use Rattle.rx_seq.specs.declared.kinds.Kind.{Kind}
+use Rattle.rx_seq.specs.declared.kinds.Part.{Part}
 use Rattle.rx_seq.specs.declared.entries.Entry.{Entry}
 use Rattle.rx_port.specs.declared.views.Known.{Known}
 use Rattle.rx_port.specs.declared.views.View.{View}
 use Rattle.rx_table.specs.Tables.{SharedTable, IsSeatOf}
 use Rattle.rx_bench.specs.declared.lanes.Lane.{Lane}
-use Rattle.rx_bench.specs.Scripts.{part_for}
+use Rattle.rx_bench.specs.Scripts.{IsMeasured}
 
 -- each lane has a seat of the table
 abbrev pub AreLanes : SharedTable → List Lane → Type 0
 AreLanes shared lanes = All (λ lane. IsSeatOf shared lane.seat) lanes
 
--- the table has one object, of this kind
-abbrev pub HasOne : SharedTable → Kind → Type 0
-HasOne shared kind = shared.layout.parts ≡ part_for kind ∷ []
+-- the table has this object alone, and it is measured
+abbrev pub HasOne : SharedTable → Part → Type 0
+HasOne shared part = (shared.layout.parts ≡ part ∷ []) × IsMeasured part
 
 -- the seat has so many entries more, and made at least an exchange for each of them and for each lost attempt
 pub record HasMade (before now : View) (made retries : ℕ) : Type 0 where

@@ -1,15 +1,14 @@
 // Threads that call on one object on shared words.
 ghost use Rattle.rx_bench.specs.Lanes.{AreLanes, HasMade, HasOne};
-ghost use Rattle.rx_bench.specs.Scripts.{part_for};
 ghost use Rattle.rx_seq.specs.Table.{fits_part};
 ghost use Rattle.rx_table.specs.Tables.{AreSeats, IsSeatOf};
 ghost use Rattle.std.specs.List.{sum_by};
 ghost use Rattle.std.specs.Prelude.{◌^◌, ◌-◌, min, ◌≡◌, ◌<◌, ◌≤◌, true, IfOk, length};
 
 use crate::plans::Plan;
-use crate::scripts::{call_of, fill_call, fill_count, part_of};
+use crate::scripts::{call_of, fill_call, fill_count};
 use rx_object::{Outcome, Runner, operate};
-use rx_seq::{Kind, NoMemory};
+use rx_seq::{NoMemory, Part};
 use rx_shape::Layout;
 use rx_table::{Opened, Seat, Shared};
 use std::alloc::Global;
@@ -30,9 +29,9 @@ pub struct Lane {
 }
 
 /// Makes so many calls of the script of a thread, or fewer where the tags are spent. It takes no memory.
-fn run(shared: &Shared, seat: &mut Seat, kind: Kind, thread: usize, calls: u32) -> Tally
+fn run(shared: &Shared, seat: &mut Seat, part: Part, thread: usize, calls: u32) -> Tally
     requires ours { IsSeatOf shared.now seat.old }
-    requires one { HasOne shared.now kind }
+    requires one { HasOne shared.now part }
     ensures ours { IsSeatOf shared.now seat.new }
     ensures made { HasMade seat.old.view seat.new.view result.made result.retries }
     ensures few { result.made ≤ calls }
@@ -41,7 +40,7 @@ fn run(shared: &Shared, seat: &mut Seat, kind: Kind, thread: usize, calls: u32) 
     let mut made = 0;
     let mut retries = 0u64;
     for number in 0..calls {
-        match runner.operate(shared, seat, 0, call_of(kind, thread, number)) {
+        match runner.operate(shared, seat, 0, call_of(part, thread, number)) {
             Outcome::Done {
                 reply: _,
                 tag: _,
@@ -57,25 +56,25 @@ fn run(shared: &Shared, seat: &mut Seat, kind: Kind, thread: usize, calls: u32) 
 }
 
 /// Makes the calls that stand before those that are measured.
-fn fill(shared: &Shared, seat: &mut Seat, kind: Kind)
+fn fill(shared: &Shared, seat: &mut Seat, part: Part)
     requires ours { IsSeatOf shared.now seat.old }
-    requires one { HasOne shared.now kind }
+    requires one { HasOne shared.now part }
     ensures { IsSeatOf shared.now seat.new }
 {
-    for number in 0..fill_count(kind) {
-        operate(shared, seat, 0, fill_call(kind, number));
+    for number in 0..fill_count(part) {
+        operate(shared, seat, 0, fill_call(part, number));
     }
 }
 
 impl Lane {
     /// Makes the calls of the thread of this number.
-    fn run(&mut self, shared: &Shared, kind: Kind, thread: usize, calls: u32)
+    fn run(&mut self, shared: &Shared, part: Part, thread: usize, calls: u32)
         requires ours { IsSeatOf shared.now self.old.seat }
-        requires one { HasOne shared.now kind }
+        requires one { HasOne shared.now part }
         ensures ours { IsSeatOf shared.now self.new.seat }
         ensures made { HasMade self.old.seat.view self.new.seat.view self.new.tally.made self.new.tally.retries }
     {
-        self.tally = run(shared, &mut self.seat, kind, thread, calls);
+        self.tally = run(shared, &mut self.seat, part, thread, calls);
     }
 }
 
@@ -84,17 +83,17 @@ fn lanes_of(
     alloc: Global,
     shared: &Shared,
     mut seats: Vec<Seat>,
-    kind: Kind,
+    part: Part,
 ) -> Result<Vec<Lane>, NoMemory>
     requires seats { AreSeats shared.now seats.items }
-    requires one { HasOne shared.now kind }
+    requires one { HasOne shared.now part }
     ensures many { IfOk result (λ lanes. length lanes.items ≡ length seats.items) }
     ensures each { IfOk result (λ lanes. AreLanes shared.now lanes.items) }
 {
     let mut lanes = Vec::new(alloc);
     while let Some(mut seat) = seats.pop() {
         if lanes.is_empty() {
-            fill(shared, &mut seat, kind);
+            fill(shared, &mut seat, part);
         }
         let tally = Tally {
             made: 0,
@@ -124,15 +123,15 @@ fn total(lanes: &[Lane]) -> Tally
 
 /// Makes the calls of a plan on a new table, each thread with a seat of its own.
 pub fn on_table<R: Threads + Sync>(rt: &R, alloc: Global, plan: Plan) -> Result<Tally, NoMemory> {
-    let layout = Layout::new(alloc, &[part_of(plan.kind)], plan.threads, 0)?;
+    let layout = Layout::new(alloc, &[plan.part], plan.threads, 0)?;
     let Opened { shared, seats } = Shared::new(alloc, layout)?;
-    let mut lanes = lanes_of(alloc, &shared, seats, plan.kind)?;
+    let mut lanes = lanes_of(alloc, &shared, seats, plan.part)?;
     let table = &shared;
     for_each_mut(
         rt,
         lanes.as_mut_slice(),
         plan.threads as usize,
-        &|thread, lane| lane.run(table, plan.kind, thread, plan.calls),
+        &|thread, lane| lane.run(table, plan.part, thread, plan.calls),
     );
     Ok(total(lanes.as_slice()))
 }

@@ -1,11 +1,11 @@
 // The same calls on a plain state under a lock.
-ghost use Rattle.rx_bench.specs.Scripts.{part_for};
+ghost use Rattle.rx_bench.specs.Scripts.{IsMeasured};
 ghost use Rattle.rx_seq.specs.Table.{IsPart, effect, fits_part};
 ghost use Rattle.std.specs.Prelude.{◌≡◌, ◌≤◌, true, false};
 
 use crate::plans::Plan;
-use crate::scripts::{call_of, fill_call, fill_count, part_of};
-use rx_seq::{Call, Kind, Part, State, apply, fits, start};
+use crate::scripts::{call_of, fill_call, fill_count};
+use rx_seq::{Call, Part, State, apply, fits, start};
 use std::marker::Model;
 use std::sync::{Mutex, Wait};
 use std::thread::{Threads, for_each_mut};
@@ -55,22 +55,25 @@ impl Plain {
     }
 }
 
-/// A new object of this kind, on which the calls were made that stand before those that are measured.
-fn filled(kind: Kind) -> Plain {
-    let mut plain = Plain::new(part_of(kind));
-    for number in 0..fill_count(kind) {
-        plain.call(fill_call(kind, number));
+/// A new object, on which the calls were made that stand before those that are measured.
+fn filled(part: Part) -> Plain
+    requires { IsMeasured part }
+{
+    let mut plain = Plain::new(part);
+    for number in 0..fill_count(part) {
+        plain.call(fill_call(part, number));
     }
     plain
 }
 
 /// Makes so many calls of the script of a thread, each under the lock, and tells how many were made.
-fn run(rt: &impl Wait, plain: &Mutex<Plain>, kind: Kind, thread: usize, calls: u32) -> u64
+fn run(rt: &impl Wait, plain: &Mutex<Plain>, part: Part, thread: usize, calls: u32) -> u64
+    requires { IsMeasured part }
     ensures { result ≤ calls }
 {
     let mut made = 0;
     for number in 0..calls {
-        let call = call_of(kind, thread, number);
+        let call = call_of(part, thread, number);
         if plain.lock(rt).call(call) {
             made += 1;
         }
@@ -80,14 +83,14 @@ fn run(rt: &impl Wait, plain: &Mutex<Plain>, kind: Kind, thread: usize, calls: u
 
 /// Makes the calls of a plan under a lock, and tells how many were made.
 pub fn under_lock<R: Threads + Wait + Sync>(rt: &R, plan: Plan) -> u64 {
-    let plain = Mutex::new(filled(plan.kind));
+    let plain = Mutex::new(filled(plan.part));
     let shared = &plain;
     let mut made = [0u64; 4];
     for_each_mut(
         rt,
         &mut made[..plan.threads as usize],
         plan.threads as usize,
-        &|thread, made| *made = run(rt, shared, plan.kind, thread, plan.calls),
+        &|thread, made| *made = run(rt, shared, plan.part, thread, plan.calls),
     );
     made.iter()
         .fold(0u64, |sum, made| sum.saturating_add(*made))

@@ -1,10 +1,11 @@
 //! Makes many calls on one object by one thread or several, on shared words or under a lock, and prints what it did. How
 //! long it takes is for its caller to measure, as `bench/objects` does.
 //!
-//! Its words are `KIND THREADS CALLS` or `lock KIND THREADS CALLS`, where `KIND` is `cell`, `queue`, `list` or
-//! `registers`, `THREADS` is 1 to 4, and `CALLS` is how many calls each thread makes. It ends with code 0; with code 2
-//! and a line that says this for words of another shape; with code 7 where the line cannot be written; and with code 8
-//! where there is no memory, or the system refuses the words.
+//! Its words are `KIND CAPACITY THREADS CALLS` or `lock KIND CAPACITY THREADS CALLS`, where `KIND` is `cell`, `queue`, `list`
+//! or `registers`, `CAPACITY` is 1 for a cell, 1 to 64 for a queue or a list and 16 for registers, `THREADS` is 1 to 4, and
+//! `CALLS` is how many calls each thread makes. It ends with code 0; with code 2 and a line that says this for words of
+//! another shape; with code 7 where the line cannot be written; and with code 8 where there is no memory, or the system
+//! refuses the words.
 #![tactic(auto)]
 
 mod lanes;
@@ -15,7 +16,6 @@ mod scripts;
 use crate::lanes::{Tally, on_table};
 use crate::locks::under_lock;
 use crate::plans::{Plan, name_of, plan_of};
-use crate::scripts::part_of;
 use std::alloc::Global;
 use std::process::ExitCode;
 use std::rt::Env;
@@ -53,7 +53,7 @@ fn measure_table<R: Threads + Print + Sync>(rt: &R, alloc: Global, plan: Plan) -
         Ok(tally) => tally,
         Err(_) => return NO_MEMORY,
     };
-    let (name, cap, threads) = (name_of(plan.kind), part_of(plan.kind).cap, plan.threads);
+    let (name, cap, threads) = (name_of(plan.part.kind), plan.part.cap, plan.threads);
     code(
         println!(rt; "{name} {cap} threads {threads} calls {made} retries {retries}"),
         0,
@@ -63,7 +63,7 @@ fn measure_table<R: Threads + Print + Sync>(rt: &R, alloc: Global, plan: Plan) -
 /// Makes the calls of a plan under a lock, and tells of them.
 fn measure_lock<R: Threads + Wait + Print + Sync>(rt: &R, plan: Plan) -> u8 {
     let made = under_lock(rt, plan);
-    let (name, cap, threads) = (name_of(plan.kind), part_of(plan.kind).cap, plan.threads);
+    let (name, cap, threads) = (name_of(plan.part.kind), plan.part.cap, plan.threads);
     code(
         println!(rt; "lock {name} {cap} threads {threads} calls {made}"),
         0,
@@ -76,7 +76,7 @@ fn answer<R: Threads + Wait + Print + Sync>(rt: &R, alloc: Global, words: &[Stri
         Some(plan) if plan.lock => measure_lock(rt, plan),
         Some(plan) => measure_table(rt, alloc, plan),
         None => code(
-            println!(rt; "usage: rx_bench [lock] cell|queue|list|registers THREADS CALLS"),
+            println!(rt; "usage: rx_bench [lock] cell|queue|list|registers CAPACITY THREADS CALLS"),
             NO_SHAPE,
         ),
     }

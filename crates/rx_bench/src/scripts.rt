@@ -1,38 +1,37 @@
 // The objects that are measured, and the calls that are made on them.
-ghost use Rattle.rx_bench.specs.Scripts.{part_for};
-ghost use Rattle.rx_seq.specs.Table.{IsPart, fits_part};
-ghost use Rattle.std.specs.Prelude.{◌≡◌, ◌<◌, true};
+ghost use Rattle.rx_bench.specs.Scripts.{IsMeasured};
+ghost use Rattle.rx_seq.specs.Table.{fits_by, fits_part};
+ghost use Rattle.std.specs.Prelude.{ℕ, ◌≡◌, ◌<◌, ◌≤◌, true};
 
 use rx_seq::{Call, Kind, Part, Row};
 
-/// The object of this kind with the greatest capacity.
-pub fn part_of(kind: Kind) -> Part
-    ensures value { result ≡ part_for kind }
-    ensures limits { IsPart result }
+/// Whether an object is one that is measured: a cell, a queue or a list of 1 to 64, or 16 registers.
+pub fn is_measured(part: Part) -> bool
+    ensures { result ≡ true → IsMeasured part }
 {
-    let cap = match kind {
-        Kind::Cell => 1,
-        Kind::Queue | Kind::List => 64,
-        Kind::Registers => 16,
-    };
-    Part { kind, cap }
+    match part.kind {
+        Kind::Cell => part.cap == 1,
+        Kind::Queue | Kind::List => part.cap >= 1 && part.cap <= 64,
+        Kind::Registers => part.cap == 16,
+    }
 }
 
-/// How many calls are made on an object of this kind before it is measured: a queue or a list is filled to half, and 14
-/// of 16 registers are set.
-pub fn fill_count(kind: Kind) -> u32 {
-    match kind {
+/// How many calls are made on an object before it is measured: a queue or a list is filled to half, and 14 of 16 registers
+/// are set.
+pub fn fill_count(part: Part) -> u32 {
+    match part.kind {
         Kind::Cell => 0,
-        Kind::Queue | Kind::List => 32,
+        Kind::Queue | Kind::List => part.cap / 2,
         Kind::Registers => 14,
     }
 }
 
 /// One of these calls: a queue gets numbers, a list even numbers, and registers 1000 each.
-pub fn fill_call(kind: Kind, number: u32) -> Call
-    ensures { fits_part (part_for kind) result ≡ true }
+pub fn fill_call(part: Part, number: u32) -> Call
+    requires { IsMeasured part }
+    ensures { fits_part part result ≡ true }
 {
-    match kind {
+    match part.kind {
         Kind::Cell => Call::Get,
         Kind::Queue => Call::Put { v: number },
         Kind::List => Call::Insert { k: number % 64 * 2 },
@@ -43,20 +42,21 @@ pub fn fill_call(kind: Kind, number: u32) -> Call
 /// The call with this number of the script of a thread. A cell is read, written, added to and exchanged; a queue gets a
 /// number and gives one; a list gets an odd number, which no other thread puts in, is asked for one, and gives it back;
 /// and of registers one is read, an amount is moved, and one is written where it has its old value.
-pub fn call_of(kind: Kind, thread: usize, number: u32) -> Call
-    ensures { fits_part (part_for kind) result ≡ true }
+pub fn call_of(part: Part, thread: usize, number: u32) -> Call
+    requires { IsMeasured part }
+    ensures { fits_part part result ≡ true }
 {
-    match kind {
+    match part.kind {
         Kind::Cell => call_on_cell(number),
         Kind::Queue if number % 2 == 0 => Call::Put { v: number },
         Kind::Queue => Call::Take,
-        Kind::List => call_on_list(thread, number),
+        Kind::List => call_on_list(part.cap, thread, number),
         Kind::Registers => call_on_registers(number),
     }
 }
 
 fn call_on_cell(number: u32) -> Call
-    ensures { fits_part (part_for Kind.Cell) result ≡ true }
+    ensures { (cap : ℕ) → fits_by Kind.Cell cap result ≡ true }
 {
     match number % 4 {
         0 => Call::Get,
@@ -69,10 +69,13 @@ fn call_on_cell(number: u32) -> Call
     }
 }
 
-fn call_on_list(thread: usize, number: u32) -> Call
-    ensures { fits_part (part_for Kind.List) result ≡ true }
+// The numbers of a thread stand among those that the list was filled with.
+fn call_on_list(cap: u32, thread: usize, number: u32) -> Call
+    requires { cap ≤ 64 }
+    ensures { (other : ℕ) → fits_by Kind.List other result ≡ true }
 {
-    let k = ((thread % 4) as u32 * 16 + number / 3 % 16) * 2 + 1;
+    let share = cap / 4 + 1;
+    let k = ((thread % 4) as u32 * share + number / 3 % share) * 2 + 1;
     match number % 3 {
         0 => Call::Insert { k },
         1 => Call::Has { k: k - 1 },
@@ -81,7 +84,7 @@ fn call_on_list(thread: usize, number: u32) -> Call
 }
 
 fn call_on_registers(number: u32) -> Call
-    ensures { fits_part (part_for Kind.Registers) result ≡ true }
+    ensures { fits_by Kind.Registers 16 result ≡ true }
 {
     let turn = number / 3;
     match number % 3 {
@@ -98,7 +101,7 @@ fn call_on_registers(number: u32) -> Call
 /// Writes a register where it has its old value.
 fn write_register(i: u32, old: u32, new: u32) -> Call
     requires { i < 16 }
-    ensures { fits_part (part_for Kind.Registers) result ≡ true }
+    ensures { fits_by Kind.Registers 16 result ≡ true }
 {
     Call::Multi {
         count: 1,
