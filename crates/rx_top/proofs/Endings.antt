@@ -30,7 +30,7 @@ use Rattle.rx_top.specs.declared.words.Query.{Query}
 use Rattle.rx_top.specs.declared.words.Query.TheVariants.{Run, Admit, Lanes}
 use Rattle.rx_top.specs.Words.{reads_input}
 use Rattle.rx_top.specs.Drawn.{drawn_ticks}
-use Rattle.rx_top.specs.Report.{reported_misses}
+use Rattle.rx_trace.specs.Report.{reported_misses}
 use Rattle.rx_top.specs.Stops.{ending_of, status_of}
 use Rattle.rx_top.specs.Outcome.{Answer, Answered, OutcomeOf, Ends, IsLast, Reads, ReadsSome, IsUnread, Outcome, WritesAnswer, WritesFront, admit_status_by, answer, draw_answer, edf_status, ends, fault_status, file_answer, fixed_status, input_answer, large_answer, most_input, set_answer, words_answer}
 

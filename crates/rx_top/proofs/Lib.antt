@@ -1,11 +1,6 @@
-mod Counting
-mod Banks
 mod NoMisses
-mod Lines
 mod Sharing
 mod Noting
-mod Writes
-mod NewBanks
 mod Endings
 mod Determinations
 mod Outcomes

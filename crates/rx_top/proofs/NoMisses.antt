@@ -11,7 +11,7 @@ use Rattle.rx_ledger.specs.Intervals.{is_retry_in, is_preemption_in, is_release_
 use Rattle.rx_slots.specs.Schedule.{slots, slot_at}
 use Rattle.rx_slots.specs.Events.{misses, is_missed, jobs_where, events_of, events}
 use Rattle.rx_slots.proofs.NoMisses.{slot_misses}
-use Rattle.rx_top.specs.Report.{reported_events, reported_misses}
+use Rattle.rx_trace.specs.Report.{reported_events, reported_misses}
 
 count_append : (p : Event → Bool) (es more : List Event) → count_by p (es ++ more) ≡ count_by p es + count_by p more
 count_append p es more = sum_by-append (λ (e : Event). cond (p e) 1 0) es more

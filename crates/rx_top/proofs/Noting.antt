@@ -1,6 +1,6 @@
 -- Noting the events of a run.
 use Rattle.std.proofs.Common.{ℕ, ◌≡◌, ◌≤◌, ◌<◌, ◌+◌, ◌-◌, List, [], ◌∷◌, ◌++◌, length, take, get_or, fold, Option, Some, is_some, Result, Ok, Err, OnOk, sym, ap, ◌∙◌, subst, append_assoc, arith}
-use Rattle.std.proofs.lemmas.Grind.{take_at_read, fold-append}
+use Rattle.std.proofs.lemmas.Grind.{take_at_read}
 use Rattle.std.specs.Prelude.{slice_get}
 use Rattle.std.specs.List.{All}
 use Rattle.std.proofs.lemmas.List.Elements.{All-append, All-get_or, All-push, All-same, All-weaker}
@@ -16,9 +16,9 @@ use Rattle.rx_slots.specs.Schedule.{slots, slot_at, job_in}
 use Rattle.rx_slots.specs.Events.{events, events_of, misses}
 use Rattle.rx_tick.specs.Banks.{IsBankOf}
 use Rattle.rx_tick.specs.Executive.{Moment, moment}
-use Rattle.rx_top.specs.Runs.{AreNoted, IsRun}
-use Rattle.rx_top.proofs.Counting.{counts_next, counts_end}
-use Rattle.rx_top.proofs.Lines.{events_next}
+use Rattle.rx_top.specs.Noted.{AreNoted, IsRun}
+use Rattle.rx_trace.proofs.Counting.{counts_next, counts_end}
+use Rattle.rx_trace.proofs.Lines.{events_next}
 
 -- an event is told at a time, or at this time at the latest
 abbrev IsAt : ℕ → Event → Type 0
@@ -49,11 +49,6 @@ pub noted_taken : (before ledger after told : List Event) (place : ℕ) (d : Eve
 noted_taken before ledger after told place d so_far inside more =
     more ∙ ap (λ xs. xs ++ get_or told place d ∷ []) so_far ∙ append_assoc before (take place told) (get_or told place d ∷ [])
     ∙ ap (λ xs. before ++ xs) (sym (take_at_read told place d inside).1)
-
-pub counted_taken : (t u v : Totals) (told : List Event) (place : ℕ) (d : Event) → u ≡ fold counted t (take place told) → place < length told → v ≡ counted u (get_or told place d) → v ≡ fold counted t (take (place + 1) told)
-counted_taken t u v told place d so_far inside more =
-    more ∙ ap (λ w. counted w (get_or told place d)) so_far
-    ∙ sym (fold-append counted t (take place told) (get_or told place d ∷ [])) ∙ ap (fold counted t) (sym (take_at_read told place d inside).1)
 
 pub earlier_taken : (ledger after told : List Event) (now place : ℕ) (d : Event) → All (λ event. time_of event ≤ now) ledger → All (λ event. time_of event ≡ now) told → place < length told
     → after ≡ ledger ++ get_or told place d ∷ [] → All (λ event. time_of event ≤ now) after

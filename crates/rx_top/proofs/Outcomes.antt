@@ -17,7 +17,7 @@ use Rattle.rx_slots.specs.Schedule.{history, slots}
 use Rattle.rx_slots.specs.Events.{events, misses}
 use Rattle.rx_slots.specs.Charges.{of_rank_to, of_rank_below}
 use Rattle.rx_top.proofs.NoMisses.{none_reported, preemptions_reported, releases_reported, retries_reported}
-use Rattle.rx_top.specs.Report.{reported_misses}
+use Rattle.rx_trace.specs.Report.{reported_misses}
 use Rattle.rx_fixed.specs.declared.verdicts.Verdict.{Verdict}
 use Rattle.rx_fixed.specs.declared.verdicts.Verdict.TheVariants.{Yes, No}
 use Rattle.rx_fixed.specs.Verdicts.{verdict_by, verdict_of}
@@ -42,7 +42,7 @@ use Rattle.rx_report.specs.Lines.{item_of}
 use Rattle.rx_report.specs.LaneLines.{entry_item, entry_job}
 use Rattle.rx_top.specs.LaneReport.{TellsCalls}
 use Rattle.rx_top.specs.Leaves.{LeaveBank, Leaves}
-use Rattle.rx_top.specs.Tests.{test_line_by}
+use Rattle.rx_trace.specs.Tests.{test_line_by}
 use Rattle.rx_top.specs.Outcome.{Ends, Answer, answer, admit_answer, admit_status_by, draw_answer, edf_status, fixed_status, file_answer, lanes_answer, run_answer, most_input, Answered, Headline, Admission, Sharing, Drawing, AnswersServed, AnswersFits, MeansTest, SaysYes, Charges, ChargesRanks}
 use Rattle.rx_top.specs.declared.stops.Stop.{Stop}
 use Rattle.rx_top.specs.Stops.{is_answered}

@@ -8,7 +8,7 @@ use Rattle.rx_lanes.specs.Runs.{AreShared, lists_in, table_of}
 use Rattle.rx_table.specs.Closings.{Ending, HasEnded}
 use Rattle.rx_report.specs.Lines.{object_line}
 use Rattle.rx_report.specs.LaneLines.{calls_line, entry_line}
-use Rattle.rx_top.specs.Report.{first_objects, object_line_after}
+use Rattle.rx_trace.specs.Report.{first_objects, object_line_after}
 use Rattle.rx_top.specs.LaneReport.{IsTableLeft, history_lines}
 
 -- two histories in which each object ends with the same tag and in the same state have the same lines of the objects

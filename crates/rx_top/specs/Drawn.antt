@@ -5,8 +5,8 @@ use Rattle.rx_ledger.specs.declared.events.Event.{Event}
 use Rattle.rx_ledger.specs.Intervals.{any_job, retries, preemptions}
 use Rattle.rx_report.specs.Lines.{total_line}
 use Rattle.rx_report.specs.SpanLines.{window_line}
-use Rattle.rx_top.specs.Tests.{test_line}
-use Rattle.rx_top.specs.Report.{reported_events, object_lines, run_totals}
+use Rattle.rx_trace.specs.Tests.{test_line}
+use Rattle.rx_trace.specs.Report.{reported_events, object_lines, run_totals}
 
 -- a drawn set is run for so many ticks, and each of the ten intervals has a tenth of them
 abbrev pub drawn_ticks : ℕ

@@ -8,7 +8,7 @@ use Rattle.rx_lanes.specs.Runs.{AreShared, entries_by, lists_in, table_of}
 use Rattle.rx_table.specs.Closings.{Ending, HasEnded}
 use Rattle.rx_report.specs.Lines.{item_of}
 use Rattle.rx_report.specs.LaneLines.{calls_line, entry_item, entry_job, entry_line, lanes_line}
-use Rattle.rx_top.specs.Report.{first_objects}
+use Rattle.rx_trace.specs.Report.{first_objects}
 
 -- the lines of a history: its entries from the oldest on, the objects after them, and how many there are
 abbrev pub history_lines : System → List Entry → List (List ℕ)

@@ -1,12 +1,10 @@
 pub mod Words
 pub mod Stops
-pub mod Tests
-pub mod Report
 pub mod Drawn
-pub mod Runs
+pub mod Noted
 pub mod LaneReport
 pub mod Leaves
 pub mod Outcome
 pub mod Determined
 pub mod Rows
-pub mod ReportRows
+pub mod LaneRows

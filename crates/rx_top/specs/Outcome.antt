@@ -36,9 +36,9 @@ use Rattle.rx_seq.specs.Legal.{IsLegal}
 use Rattle.rx_slots.specs.Charges.{of_rank_to, of_rank_below}
 use Rattle.rx_slots.specs.Laws.{FollowsBodies}
 use Rattle.rx_slots.specs.Schedule.{history, slots}
-use Rattle.rx_top.specs.Tests.{admit_report, test_line}
+use Rattle.rx_trace.specs.Tests.{admit_report, test_line}
 use Rattle.rx_top.specs.Drawn.{drawn_report, drawn_ticks}
-use Rattle.rx_top.specs.Report.{report, reported_events, reported_misses}
+use Rattle.rx_trace.specs.Report.{report, reported_events, reported_misses}
 use Rattle.rx_lanes.specs.Histories.{IsMade, Made, made_of}
 use Rattle.rx_top.specs.LaneReport.{TellsCalls, lanes_report}
 use Rattle.rx_top.specs.Leaves.{ToLeave, LeaveNothing, LeaveBank, LeaveTable, Leaves}

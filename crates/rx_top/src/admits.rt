@@ -6,55 +6,18 @@ ghost use Rattle.rx_set.specs.Valid.{IsValid};
 ghost use Rattle.rx_set.specs.Admission.{least_time};
 ghost use Rattle.rx_set.specs.declared.policies.Policy.TheVariants.{Edf};
 ghost use Rattle.rx_fixed.specs.Verdicts.{verdict_of};
-ghost use Rattle.rx_report.specs.VerdictLines.{fixed_line, rank_line};
-ghost use Rattle.rx_edf.specs.Verdicts.{verdict_of as edf_verdict_of};
-ghost use Rattle.rx_report.specs.SpanLines.{edf_line};
+ghost use Rattle.rx_report.specs.VerdictLines.{rank_line};
 ghost use Rattle.rx_top.specs.declared.left.Left.TheVariants.{Nothing};
 ghost use Rattle.rx_top.specs.Outcome.{WritesAnswer, admit_answer, edf_status, fixed_status};
-ghost use Rattle.rx_top.specs.Tests.{first_ranks, fixed_report, test_line};
+ghost use Rattle.rx_trace.specs.Tests.{first_ranks, fixed_report};
 
 use crate::stops::Stop;
-use rx_edf::{EdfVerdict, test as test_spans};
+use rx_edf::EdfVerdict;
 use rx_fixed::{Verdict, least, test as test_ranks};
 use rx_io::{Failed, Sink, Status, put};
-use rx_report::{Line, edf_line, fixed_line, rank_line};
+use rx_report::{Line, rank_line};
 use rx_set::{Policy, TaskSet};
-
-/// Hands in the line of a verdict of the test for fixed priorities.
-fn put_verdict<K: Sink>(verdict: &Verdict, line: &mut Line, sink: &mut K) -> Result<(), Failed>
-    requires { MayBeCalled (K.tells sink.old).failures }
-    ensures { Puts (K.tells sink.old) (K.tells sink.new) result (fixed_line verdict.now ∷ []) }
-{
-    fixed_line(verdict, line);
-    put(sink, line.as_slice())
-}
-
-/// Makes the test for earliest deadlines first of a set, hands in its line, and answers its verdict.
-fn write_spans<K: Sink>(set: &TaskSet, line: &mut Line, sink: &mut K) -> Result<EdfVerdict, Failed>
-    requires up { MayBeCalled (K.tells sink.old).failures }
-    requires policy { set.now.policy ≡ Edf }
-    ensures puts { Puts (K.tells sink.old) (K.tells sink.new) result (edf_line (edf_verdict_of set.now) ∷ []) }
-    ensures verdict { IfOk result (λ verdict. verdict ≡ edf_verdict_of set.now) }
-{
-    let verdict = test_spans(set);
-    edf_line(&verdict, line);
-    put(sink, line.as_slice())?;
-    Ok(verdict)
-}
-
-/// Hands in the line of the admission test of a set, that of its policy.
-pub(crate) fn put_test<K: Sink>(set: &TaskSet, line: &mut Line, sink: &mut K) -> Result<(), Failed>
-    requires { MayBeCalled (K.tells sink.old).failures }
-    ensures { Puts (K.tells sink.old) (K.tells sink.new) result (test_line set.now ∷ []) }
-{
-    match set.policy() {
-        Policy::Rm | Policy::Dm => put_verdict(&test_ranks(set), line, sink),
-        Policy::Edf => {
-            write_spans(set, line, sink)?;
-            Ok(())
-        }
-    }
-}
+use rx_trace::{put_verdict, write_spans};
 
 /// Hands in the line of a rank.
 fn put_rank<K: Sink>(set: &TaskSet, rank: u32, line: &mut Line, sink: &mut K) -> Result<(), Failed>

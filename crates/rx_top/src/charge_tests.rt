@@ -1,9 +1,9 @@
 // In each window of drawn sets the retries are at most the preemptions.
 
-use crate::runs::new_executive;
 use rx_ledger::{Event, Ledger};
 use rx_set::generate;
 use rx_tick::{Executive, Tick};
+use rx_trace::new_executive;
 use std::alloc::Global;
 use std::test::Fail;
 

@@ -9,13 +9,10 @@ ghost use Rattle.rx_tick.specs.Executive.{moment};
 ghost use Rattle.rx_top.specs.declared.left.Left.TheVariants.{Nothing};
 ghost use Rattle.rx_top.specs.Outcome.{WritesAnswer, draw_answer};
 ghost use Rattle.rx_top.specs.Drawn.{drawn_report, first_windows, window_line_after, window_report};
-ghost use Rattle.rx_top.specs.Leaves.{IsBankLeft};
-ghost use Rattle.rx_top.specs.Runs.{AreNoted, IsRun};
+ghost use Rattle.rx_trace.specs.RunBanks.{IsBankLeft};
+ghost use Rattle.rx_top.specs.Noted.{AreNoted, IsRun};
 
-use crate::admits::put_test;
 use crate::left::Left;
-use crate::objects::put_objects;
-use crate::runs::{new_executive, put_totals};
 use crate::stops::Stop;
 use rx_io::{Failed, Sink, Status, put};
 use rx_ledger::{Event, Ledger, Totals};
@@ -25,6 +22,7 @@ use rx_seq::NoMemory;
 use rx_set::{TaskSet, generate};
 use rx_tick::laws::{events_have_their_time, replies_and_retries_are_told};
 use rx_tick::{Executive, MOST_EVENTS, Tick};
+use rx_trace::{new_executive, put_objects, put_test, put_totals};
 use std::alloc::Global;
 
 // How many ticks an interval has, and how many intervals there are.

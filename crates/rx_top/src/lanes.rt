@@ -9,10 +9,9 @@ ghost use Rattle.rx_lanes.specs.Histories.{HaveSameEnds};
 ghost use Rattle.rx_top.specs.declared.left.Left.TheVariants.{Nothing};
 ghost use Rattle.rx_top.specs.LaneReport.{history_lines, lanes_report};
 ghost use Rattle.rx_top.specs.Outcome.{WritesOneAnswer, lanes_answer};
-ghost use Rattle.rx_top.specs.Report.{first_objects};
+ghost use Rattle.rx_trace.specs.Report.{first_objects};
 
 use crate::left::Left;
-use crate::objects::put_objects;
 use crate::stops::Stop;
 use rx_io::{Failed, Sink, Status, put};
 use rx_lanes::{Gate, Run, run_lanes};
@@ -20,6 +19,7 @@ use rx_report::{Line, calls_line, entry_line, lanes_line};
 use rx_seq::Entry;
 use rx_set::TaskSet;
 use rx_table::Closed;
+use rx_trace::put_objects;
 use std::alloc::Global;
 use std::thread::Threads;
 

@@ -13,7 +13,6 @@ mod draws;
 mod lane_tests;
 mod lanes;
 mod left;
-mod objects;
 mod runs;
 mod stops;
 #[cfg(test)]

@@ -3,7 +3,6 @@
 ghost use Rattle.rx_io.specs.States.{MayBeCalled};
 
 use super::*;
-use crate::runs::new_executive;
 use rx_edf::{EdfVerdict, test as test_spans};
 use rx_fixed::{Verdict, test};
 use rx_io::{InSource, MemorySink, MemorySource, OutSink, Sink, Source};
@@ -13,6 +12,7 @@ use rx_port::Counts;
 use rx_seq::State;
 use rx_set::{Policy, TaskSet, generate};
 use rx_tick::{Executive, Tick};
+use rx_trace::new_executive;
 use std::alloc::{AllocError, Global};
 use std::io;
 use std::io::Read;

@@ -2,8 +2,8 @@ use Rattle.std.proofs.Common.{◌<◌, length, ap, arith}
 use Rattle.std.proofs.lemmas.List.{length-map}
 use Rattle.rx_io.proofs.Puts.{puts_cut, takes_next}
 use Rattle.rx_set.specs.View.{row_of}
-use Rattle.rx_top.specs.Tests.{rank_line_after}
-use Rattle.rx_top.proofs.Lines.{numbered_around, numbered_next}
+use Rattle.rx_trace.specs.Tests.{rank_line_after}
+use Rattle.rx_trace.proofs.Lines.{numbered_around, numbered_next}
 use Rattle.rx_top.proofs.admits.put_ranks.Goals as goal
 
 pub returns-in_err-put_rank : goal.returns-in_err-put_rank

@@ -1,5 +1,5 @@
 use Rattle.rx_io.specs.Causes.{Takes}
-use Rattle.rx_top.specs.Tests.{first_ranks}
+use Rattle.rx_trace.specs.Tests.{first_ranks}
 use Rattle.rx_top.proofs.admits.put_ranks.Given as goal
 
 abbrev pub invariant-loop-place : goal.invariant-loop-place

@@ -2,7 +2,7 @@ use Rattle.std.proofs.Common.{refl, subst}
 use Rattle.rx_io.specs.Causes.{Takes, TakesFront}
 use Rattle.rx_set.specs.System.{System}
 use Rattle.rx_top.specs.Drawn.{drawn_report}
-use Rattle.rx_top.specs.Leaves.{IsBankLeft}
+use Rattle.rx_trace.specs.RunBanks.{IsBankLeft}
 use Rattle.rx_top.proofs.Endings.{writes_stopped}
 use Rattle.rx_top.proofs.draws.draw.Goals as goal
 

@@ -1,6 +1,6 @@
 use Rattle.std.proofs.Common.{◌<◌, length, arith}
-use Rattle.rx_top.proofs.Counting.{small_so_far}
-use Rattle.rx_top.proofs.Noting.{may_follow, noted_taken, earlier_taken, counted_taken}
+use Rattle.rx_trace.proofs.Counting.{counted_taken, small_so_far}
+use Rattle.rx_top.proofs.Noting.{may_follow, noted_taken, earlier_taken}
 use Rattle.rx_top.proofs.draws.note_events.Goals as goal
 
 pub count-requires : goal.count-requires

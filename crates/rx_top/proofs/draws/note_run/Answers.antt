@@ -1,5 +1,5 @@
 use Rattle.std.proofs.Common.{◌∙◌}
-use Rattle.rx_top.proofs.Banks.{bank_left}
+use Rattle.rx_trace.proofs.Banks.{bank_left}
 use Rattle.rx_top.proofs.Noting.{run_noted}
 use Rattle.rx_top.proofs.draws.note_run.Goals as goal
 

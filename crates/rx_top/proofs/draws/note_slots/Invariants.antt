@@ -1,5 +1,5 @@
 use Rattle.std.proofs.Common.{◌≡◌, ◌≤◌, ◌-◌}
-use Rattle.rx_top.specs.Runs.{AreNoted}
+use Rattle.rx_top.specs.Noted.{AreNoted}
 use Rattle.rx_top.proofs.draws.note_slots.Given as goal
 
 abbrev pub invariant-loop-executive : goal.invariant-loop-executive

@@ -2,7 +2,7 @@ use Rattle.std.proofs.Common.{◌≡◌, subst, arith}
 use Rattle.rx_io.proofs.Puts.{puts_cut, takes_next}
 use Rattle.rx_io.specs.Causes.{Takes}
 use Rattle.rx_top.specs.Drawn.{first_windows, window_line_after}
-use Rattle.rx_top.proofs.Lines.{numbered_around, numbered_next}
+use Rattle.rx_trace.proofs.Lines.{numbered_around, numbered_next}
 use Rattle.rx_top.proofs.draws.put_windows.Goals as goal
 
 pub returns-in_err-put_window : goal.returns-in_err-put_window

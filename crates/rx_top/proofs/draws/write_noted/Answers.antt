@@ -2,7 +2,7 @@ use Rattle.std.proofs.Common.{refl}
 use Rattle.rx_io.proofs.Puts.{puts_after, puts_cut, puts_cut_first}
 use Rattle.rx_slots.specs.Schedule.{history, slots}
 use Rattle.rx_top.specs.Drawn.{first_windows, window_report}
-use Rattle.rx_top.specs.Report.{reported_events}
+use Rattle.rx_trace.specs.Report.{reported_events}
 use Rattle.rx_top.proofs.draws.write_noted.Goals as goal
 
 pub returns-in_err-put_windows : goal.returns-in_err-put_windows

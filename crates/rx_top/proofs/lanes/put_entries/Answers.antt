@@ -1,7 +1,7 @@
 use Rattle.std.proofs.Common.{arith}
 use Rattle.rx_report.specs.LaneLines.{entry_line}
 use Rattle.rx_io.proofs.Puts.{puts_cut, takes_next}
-use Rattle.rx_top.proofs.Lines.{line_around, line_next}
+use Rattle.rx_trace.proofs.Lines.{line_around, line_next}
 use Rattle.rx_top.proofs.lanes.put_entries.Goals as goal
 
 pub returns-in_err-put : goal.returns-in_err-put

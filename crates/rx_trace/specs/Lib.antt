@@ -1,0 +1,5 @@
+pub mod Tests
+pub mod Report
+pub mod RunBanks
+pub mod Runs
+pub mod ReportRows
