@@ -1,2 +1,4 @@
 mod Found
 mod Operations
+mod Times
+mod Words

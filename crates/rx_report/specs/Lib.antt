@@ -1,4 +1,6 @@
 pub mod Lines
+pub mod Buffers
+pub mod Wordings
 pub mod VerdictLines
 pub mod SpanLines
 pub mod LaneLines

@@ -4,12 +4,13 @@ ghost use Rattle.std.specs.Prelude.{◌≡◌, ◌≤◌, ◌+◌, ◌*◌, ◌+
 ghost use Rattle.rx_seq.specs.Table.{fits_part};
 ghost use Rattle.rx_report.specs.Lines.{call_text, row_text, spaced};
 
-use crate::lines::{Line, push_text, push_values};
+use crate::buffers::{LineBuffer, push_text};
+use crate::lines::push_values;
 use rx_seq::{Call, Row};
 use rx_set::Object;
 
 /// Appends the word of a call, the name of its object, and its numbers. A name has at most 16 bytes.
-fn push_named(line: &mut Line, word: &[u8], object: &Object, values: &[u32])
+fn push_named(line: &mut LineBuffer, word: &[u8], object: &Object, values: &[u32])
     requires { length line.old.items + length word.now + 16 + 11 * length values.now ≤ 1024 }
     ensures text { line.new.items ≡ line.old.items ++ word.now ++ object.now.name.bytes ++ flat_map spaced values.now }
     ensures few { length line.new.items ≤ length line.old.items + length word.now + 16 + 11 * length values.now }
@@ -20,7 +21,7 @@ fn push_named(line: &mut Line, word: &[u8], object: &Object, values: &[u32])
 }
 
 /// Appends the first rows, at most 4: of each its register, and the old and the new value.
-fn push_rows(line: &mut Line, rows: &[Row; 4], count: u32)
+fn push_rows(line: &mut LineBuffer, rows: &[Row; 4], count: u32)
     requires room { length line.old.items + 132 ≤ 1024 }
     requires some { count ≤ 4 }
     ensures text { line.new.items ≡ line.old.items ++ flat_map row_text (take count rows.now) }
@@ -32,7 +33,7 @@ fn push_rows(line: &mut Line, rows: &[Row; 4], count: u32)
 }
 
 /// Appends a call on its object, which is at most 155 bytes. The call fits the object, so it has at most 4 rows.
-pub(crate) fn push_call(line: &mut Line, object: &Object, call: &Call)
+pub(crate) fn push_call(line: &mut LineBuffer, object: &Object, call: &Call)
     requires room { length line.old.items + 155 ≤ 1024 }
     requires fits { fits_part object.now.part call.now ≡ true }
     ensures text { line.new.items ≡ line.old.items ++ call_text object.now.name.bytes call.now }

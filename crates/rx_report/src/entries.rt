@@ -1,12 +1,14 @@
 // The lines of what the tasks did on threads.
 ghost use Rattle.std.specs.Prelude.{◌≡◌, ◌≤◌, ◌+◌, ◌++◌, length};
 ghost use Rattle.rx_report.specs.LaneLines.{calls_line, entry_item, entry_job, entry_line, entry_text, item_after, lanes_line, operations};
+ghost use Rattle.rx_report.specs.Wordings.{AreWords, IsWordingOf};
 ghost use Rattle.rx_set.specs.System.{task_at};
 
-use crate::items::push_item;
+use crate::buffers::{LineBuffer, push_text};
 use crate::jobs::push_job;
-use crate::lines::{Line, push_field, push_spaced, push_text};
+use crate::lines::{Line, push_field};
 use crate::replies::push_reply;
+use crate::wordings::{TaskWords, Wording, push_request};
 use rx_seq::Entry;
 use rx_set::{Item, Job, TaskSet};
 
@@ -59,19 +61,40 @@ fn made_by(set: &TaskSet, entry: &Entry) -> (Job, u32)
 }
 
 /// Appends what an entry tells, which is at most 282 bytes.
-fn push_entry(set: &TaskSet, entry: &Entry, line: &mut Line)
-    requires { length line.old.items + 282 ≤ 1024 }
+#[inline(always)]
+fn push_entry(set: &TaskSet, words: &[TaskWords], entry: &Entry, line: &mut LineBuffer)
+    requires words { AreWords set.now words.now }
+    requires room { length line.old.items + 282 ≤ 1024 }
     ensures text { line.new.items ≡ line.old.items ++ entry_text set.now entry.now }
     ensures few { length line.new.items ≤ length line.old.items + 282 }
 {
     let (job, item) = made_by(set, entry);
-    push_job(set, job, line);
-    push_spaced(line, u64::from(item));
-    push_text(line, b" ");
-    push_item(set, job, item, line);
-    push_text(line, b" -> ");
+    push_job(set, words, job, line);
+    push_request(set, words, job, item, line);
     push_reply(line, entry.reply);
     push_field(line, b" tag", entry.tag);
+}
+
+/// Makes it the line of an entry, with its line feed.
+#[inline(always)]
+fn make_line(set: &TaskSet, words: &[TaskWords], entry: &Entry, line: &mut LineBuffer)
+    requires { AreWords set.now words.now }
+    ensures { line.new.items ≡ entry_line set.now entry.now }
+{
+    line.clear();
+    push_entry(set, words, entry, line);
+    push_text(line, b"\n");
+}
+
+impl LineBuffer {
+    /// Makes it the line of an entry, as `entry_line` does, with the set's wording. It takes no memory, and its cost is that
+    /// of the bytes written and of looking at each item of the body.
+    pub fn make_entry(&mut self, set: &TaskSet, wording: &Wording, entry: &Entry)
+        requires { IsWordingOf set.now wording.now }
+        ensures { self.new.items ≡ entry_line set.now entry.now }
+    {
+        make_line(set, wording.words(), entry, self);
+    }
 }
 
 /// Makes `out` the first line of what several lanes did, with its line feed: `lanes W jobs J`, where W is how many lanes
@@ -80,10 +103,11 @@ fn push_entry(set: &TaskSet, entry: &Entry, line: &mut Line)
 pub fn lanes_line(workers: u32, jobs: u32, out: &mut Line)
     ensures { out.new.items ≡ lanes_line workers jobs }
 {
-    out.clear();
-    push_field(out, b"lanes", u64::from(workers));
-    push_field(out, b" jobs", u64::from(jobs));
-    push_text(out, b"\n");
+    let mut line = LineBuffer::new();
+    push_field(&mut line, b"lanes", u64::from(workers));
+    push_field(&mut line, b" jobs", u64::from(jobs));
+    push_text(&mut line, b"\n");
+    line.copy_to(out);
 }
 
 /// Makes `out` the line of an entry whose caller is a task of the set, with its line feed: `T J I C -> Y tag G`, the name
@@ -97,9 +121,9 @@ pub fn lanes_line(workers: u32, jobs: u32, out: &mut Line)
 pub fn entry_line(set: &TaskSet, entry: &Entry, out: &mut Line)
     ensures { out.new.items ≡ entry_line set.now entry.now }
 {
-    out.clear();
-    push_entry(set, entry, out);
-    push_text(out, b"\n");
+    let mut line = LineBuffer::new();
+    make_line(set, &[], entry, &mut line);
+    line.copy_to(out);
 }
 
 /// Makes `out` the last line of what several lanes did, with its line feed: `total calls N`. What stood in `out` is gone.
@@ -107,7 +131,8 @@ pub fn entry_line(set: &TaskSet, entry: &Entry, out: &mut Line)
 pub fn calls_line(count: u64, out: &mut Line)
     ensures { out.new.items ≡ calls_line count }
 {
-    out.clear();
-    push_field(out, b"total calls", count);
-    push_text(out, b"\n");
+    let mut line = LineBuffer::new();
+    push_field(&mut line, b"total calls", count);
+    push_text(&mut line, b"\n");
+    line.copy_to(out);
 }

@@ -1,27 +1,31 @@
 // The line of an event.
 ghost use Rattle.std.specs.Prelude.{◌≡◌, ◌≤◌, ◌+◌, ◌++◌, length};
 ghost use Rattle.rx_report.specs.Lines.{event_line, event_text};
+ghost use Rattle.rx_report.specs.Wordings.{AreWords, IsWordingOf};
 
-use crate::items::{push_item, push_object};
-use crate::jobs::{push_job, push_told, push_told_item};
-use crate::lines::{Line, push_field, push_text};
+use crate::buffers::{LineBuffer, push_text};
+use crate::items::push_object;
+use crate::jobs::{begin_told, push_job};
+use crate::lines::{Line, push_field, push_spaced};
 use crate::replies::push_reply;
+use crate::wordings::{TaskWords, Wording, push_request};
 use rx_ledger::Event;
 use rx_set::TaskSet;
 
-/// Appends what an event tells, which is at most 298 bytes.
-fn push_event(set: &TaskSet, event: &Event, line: &mut Line)
-    requires { length line.old.items + 298 ≤ 1024 }
-    ensures text { line.new.items ≡ line.old.items ++ event_text set.now event.now }
-    ensures few { length line.new.items ≤ length line.old.items + 298 }
+/// Makes it what an event tells, which is at most 298 bytes.
+#[inline(always)]
+fn begin_event(set: &TaskSet, words: &[TaskWords], event: &Event, line: &mut LineBuffer)
+    requires { AreWords set.now words.now }
+    ensures text { line.new.items ≡ event_text set.now event.now }
+    ensures few { length line.new.items ≤ 298 }
 {
     match *event {
-        Event::Miss { at, job } => push_told(set, at, b" miss ", job, line),
-        Event::Release { at, job } => push_told(set, at, b" release ", job, line),
+        Event::Miss { at, job } => begin_told(set, words, at, b" miss ", job, line),
+        Event::Release { at, job } => begin_told(set, words, at, b" release ", job, line),
         Event::Preempt { at, job, by } => {
-            push_told(set, at, b" preempt ", job, line);
+            begin_told(set, words, at, b" preempt ", job, line);
             push_text(line, b" by ");
-            push_job(set, by, line);
+            push_job(set, words, by, line);
         }
         Event::Reply {
             at,
@@ -31,9 +35,8 @@ fn push_event(set: &TaskSet, event: &Event, line: &mut Line)
             tag,
             ..
         } => {
-            push_told_item(set, at, b" reply ", job, item, line);
-            push_item(set, job, item, line);
-            push_text(line, b" -> ");
+            begin_told(set, words, at, b" reply ", job, line);
+            push_request(set, words, job, item, line);
             push_reply(line, reply);
             push_field(line, b" tag", tag);
         }
@@ -45,12 +48,36 @@ fn push_event(set: &TaskSet, event: &Event, line: &mut Line)
             found,
             ..
         } => {
-            push_told_item(set, at, b" retry ", job, item, line);
+            begin_told(set, words, at, b" retry ", job, line);
+            push_spaced(line, u64::from(item));
+            push_text(line, b" ");
             push_object(set, job, item, line);
             push_field(line, b" tag", expected);
             push_field(line, b" now", found);
         }
-        Event::Finish { at, job } => push_told(set, at, b" finish ", job, line),
+        Event::Finish { at, job } => begin_told(set, words, at, b" finish ", job, line),
+    }
+}
+
+/// Makes it the line of an event, with its line feed.
+#[inline(always)]
+fn make_line(set: &TaskSet, words: &[TaskWords], event: &Event, line: &mut LineBuffer)
+    requires { AreWords set.now words.now }
+    ensures { line.new.items ≡ event_line set.now event.now }
+{
+    begin_event(set, words, event, line);
+    push_text(line, b"\n");
+}
+
+impl LineBuffer {
+    /// Makes it the line of an event, as `event_line` does, with the set's wording. It takes no memory, and its cost is that
+    /// of the bytes written.
+    #[inline(always)]
+    pub fn make_event(&mut self, set: &TaskSet, wording: &Wording, event: &Event)
+        requires { IsWordingOf set.now wording.now }
+        ensures { self.new.items ≡ event_line set.now event.now }
+    {
+        make_line(set, wording.words(), event, self);
     }
 }
 
@@ -67,7 +94,7 @@ fn push_event(set: &TaskSet, event: &Event, line: &mut Line)
 pub fn event_line(set: &TaskSet, event: &Event, out: &mut Line)
     ensures { out.new.items ≡ event_line set.now event.now }
 {
-    out.clear();
-    push_event(set, event, out);
-    push_text(out, b"\n");
+    let mut line = LineBuffer::new();
+    make_line(set, &[], event, &mut line);
+    line.copy_to(out);
 }

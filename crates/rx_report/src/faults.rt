@@ -3,11 +3,12 @@ ghost use Rattle.std.specs.Prelude.{◌≡◌, ◌≢◌, ◌≤◌, ◌+◌, �
 ghost use Rattle.rx_file.specs.declared.faults.FileFault.TheVariants.{NoMemory};
 ghost use Rattle.rx_report.specs.Lines.{fault_line, fault_text, item_fault, key_fault, label_word, row_fault, section_word};
 
-use crate::lines::{Line, push_spaced, push_text};
+use crate::buffers::{LineBuffer, push_text};
+use crate::lines::{Line, push_spaced};
 use rx_file::{FileFault, Label, Section};
 
 /// Appends the word of a section.
-fn push_section(line: &mut Line, section: Section)
+fn push_section(line: &mut LineBuffer, section: Section)
     requires { length line.old.items + 6 ≤ 1024 }
     ensures text { line.new.items ≡ line.old.items ++ section_word section }
     ensures few { length line.new.items ≤ length line.old.items + 6 }
@@ -21,7 +22,7 @@ fn push_section(line: &mut Line, section: Section)
 }
 
 /// Appends the word of a label.
-fn push_label(line: &mut Line, label: Label)
+fn push_label(line: &mut LineBuffer, label: Label)
     requires { length line.old.items + 8 ≤ 1024 }
     ensures text { line.new.items ≡ line.old.items ++ label_word label }
     ensures few { length line.new.items ≤ length line.old.items + 8 }
@@ -47,7 +48,7 @@ fn push_label(line: &mut Line, label: Label)
 }
 
 /// Appends what is wrong, the section, and the number of its row or of all its rows.
-fn push_row_fault(line: &mut Line, what: &[u8], section: Section, number: u64)
+fn push_row_fault(line: &mut LineBuffer, what: &[u8], section: Section, number: u64)
     requires { length line.old.items + length what.now + 27 ≤ 1024 }
     ensures text { line.new.items ≡ line.old.items ++ row_fault what.now section number }
     ensures few { length line.new.items ≤ length line.old.items + length what.now + 27 }
@@ -58,7 +59,7 @@ fn push_row_fault(line: &mut Line, what: &[u8], section: Section, number: u64)
 }
 
 /// Appends what is wrong, the section, the number of its row, and what in the row it is.
-fn push_key_fault(line: &mut Line, what: &[u8], section: Section, row: u32, label: Label)
+fn push_key_fault(line: &mut LineBuffer, what: &[u8], section: Section, row: u32, label: Label)
     requires { length line.old.items + length what.now + 36 ≤ 1024 }
     ensures text { line.new.items ≡ line.old.items ++ key_fault what.now section row label }
     ensures few { length line.new.items ≤ length line.old.items + length what.now + 36 }
@@ -69,7 +70,7 @@ fn push_key_fault(line: &mut Line, what: &[u8], section: Section, row: u32, labe
 }
 
 /// Appends what is wrong, and the numbers of a task and of its item.
-fn push_item_fault(line: &mut Line, what: &[u8], task: u32, item: u32)
+fn push_item_fault(line: &mut LineBuffer, what: &[u8], task: u32, item: u32)
     requires { length line.old.items + length what.now + 42 ≤ 1024 }
     ensures text { line.new.items ≡ line.old.items ++ item_fault what.now task item }
     ensures few { length line.new.items ≤ length line.old.items + length what.now + 42 }
@@ -80,7 +81,7 @@ fn push_item_fault(line: &mut Line, what: &[u8], task: u32, item: u32)
 }
 
 /// Appends what a fault tells, which is at most 55 bytes.
-fn push_fault(line: &mut Line, fault: &FileFault)
+fn push_fault(line: &mut LineBuffer, fault: &FileFault)
     requires room { length line.old.items + 55 ≤ 1024 }
     requires fault { fault.now ≢ NoMemory }
     ensures text { line.new.items ≡ line.old.items ++ fault_text fault.now }
@@ -128,9 +129,10 @@ pub fn fault_line(fault: &FileFault, out: &mut Line)
     requires { fault.now ≢ NoMemory }
     ensures { out.new.items ≡ fault_line fault.now }
 {
-    out.clear();
-    push_fault(out, fault);
-    push_text(out, b"\n");
+    let mut line = LineBuffer::new();
+    push_fault(&mut line, fault);
+    push_text(&mut line, b"\n");
+    line.copy_to(out);
 }
 
 #[cfg(test)]

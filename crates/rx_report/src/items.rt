@@ -3,9 +3,9 @@ ghost use Rattle.std.specs.Prelude.{◌≡◌, ◌≤◌, ◌+◌, ◌++◌, len
 ghost use Rattle.rx_set.specs.Valid.{IsItem};
 ghost use Rattle.rx_report.specs.Lines.{item_of, item_text, object_text};
 
+use crate::buffers::{LineBuffer, push_number, push_text};
 use crate::calls::push_call;
 use crate::jobs::task_of;
-use crate::lines::{Line, push_number, push_text};
 use crate::objects::object_at;
 use rx_set::{Item, Job, TaskSet};
 
@@ -22,7 +22,7 @@ fn item_of(set: &TaskSet, job: Job, item: u32) -> Option<&Item>
 }
 
 /// Appends what an item asks for, which is at most 155 bytes, and nothing where there is no such item.
-pub(crate) fn push_item(set: &TaskSet, job: Job, item: u32, line: &mut Line)
+pub(crate) fn push_item(set: &TaskSet, job: Job, item: u32, line: &mut LineBuffer)
     requires { length line.old.items + 155 ≤ 1024 }
     ensures text { line.new.items ≡ line.old.items ++ item_text set.now (item_of set.now job item) }
     ensures few { length line.new.items ≤ length line.old.items + 155 }
@@ -39,7 +39,8 @@ pub(crate) fn push_item(set: &TaskSet, job: Job, item: u32, line: &mut Line)
 
 /// Appends the name of the object that an item calls, and nothing where it calls none. A name has at
 /// most 16 bytes.
-pub(crate) fn push_object(set: &TaskSet, job: Job, item: u32, line: &mut Line)
+#[inline(never)]
+pub(crate) fn push_object(set: &TaskSet, job: Job, item: u32, line: &mut LineBuffer)
     requires { length line.old.items + 16 ≤ 1024 }
     ensures text { line.new.items ≡ line.old.items ++ object_text set.now (item_of set.now job item) }
     ensures few { length line.new.items ≤ length line.old.items + 16 }

@@ -2,6 +2,7 @@
 //! run, as exact bytes. The definitions are `specs/Lines.antt`, `specs/VerdictLines.antt` and `specs/SpanLines.antt`.
 #![tactic(auto)]
 
+mod buffers;
 mod calls;
 mod entries;
 mod events;
@@ -17,7 +18,9 @@ mod spans;
 mod tests;
 mod totals;
 mod verdicts;
+mod wordings;
 
+pub use buffers::LineBuffer;
 pub use entries::{calls_line, entry_line, lanes_line};
 pub use events::event_line;
 pub use faults::fault_line;
@@ -26,3 +29,4 @@ pub use objects::object_line;
 pub use spans::{edf_line, window_line};
 pub use totals::total_line;
 pub use verdicts::{fixed_line, rank_line};
+pub use wordings::Wording;

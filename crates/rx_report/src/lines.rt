@@ -1,37 +1,17 @@
 // Appending to a line.
 ghost use Rattle.std.specs.List.{flat_map};
-ghost use Rattle.std.specs.Prelude.{◌≡◌, ◌≤◌, ◌+◌, ◌*◌, ◌++◌, length, decimal};
+ghost use Rattle.std.specs.Prelude.{◌≡◌, ◌≤◌, ◌+◌, ◌*◌, ◌++◌, length};
 ghost use Rattle.rx_report.specs.Lines.{spaced};
 
+use crate::buffers::{LineBuffer, push_number, push_small, push_text};
 use arrayvec::ArrayVec;
-use itoa::Buffer;
 
 /// One line with its line feed. No line of a report is longer than 1,024 bytes.
 pub type Line = ArrayVec<u8, 1024>;
 
-/// Appends a text.
-pub(crate) fn push_text(line: &mut Line, text: &[u8])
-    requires { length line.old.items + length text.now ≤ 1024 }
-    ensures { line.new.items ≡ line.old.items ++ text.now }
-{
-    match line.try_extend_from_slice(text) {
-        Ok(()) => {}
-        Err(_) => unreachable!(),
-    }
-}
-
-/// Appends a number, which has at most 20 digits.
-pub(crate) fn push_number(line: &mut Line, n: u64)
-    requires { length line.old.items + 20 ≤ 1024 }
-    ensures text { line.new.items ≡ line.old.items ++ decimal n }
-    ensures few { length line.new.items ≤ length line.old.items + 20 }
-{
-    let mut buffer = Buffer::new();
-    push_text(line, buffer.format(n).as_bytes());
-}
-
 /// Appends a space and a number.
-pub(crate) fn push_spaced(line: &mut Line, n: u64)
+#[inline(always)]
+pub(crate) fn push_spaced(line: &mut LineBuffer, n: u64)
     requires { length line.old.items + 21 ≤ 1024 }
     ensures text { line.new.items ≡ line.old.items ++ spaced n }
     ensures few { length line.new.items ≤ length line.old.items + 21 }
@@ -41,7 +21,8 @@ pub(crate) fn push_spaced(line: &mut Line, n: u64)
 }
 
 /// Appends a text, a space and a number.
-pub(crate) fn push_field(line: &mut Line, text: &[u8], n: u64)
+#[inline(always)]
+pub(crate) fn push_field(line: &mut LineBuffer, text: &[u8], n: u64)
     requires { length line.old.items + length text.now + 21 ≤ 1024 }
     ensures text { line.new.items ≡ line.old.items ++ text.now ++ spaced n }
     ensures few { length line.new.items ≤ length line.old.items + length text.now + 21 }
@@ -51,18 +32,17 @@ pub(crate) fn push_field(line: &mut Line, text: &[u8], n: u64)
 }
 
 /// Appends a space and a number of 32 bits, which has at most 10 digits.
-fn push_value(line: &mut Line, value: u32)
+fn push_value(line: &mut LineBuffer, value: u32)
     requires { length line.old.items + 11 ≤ 1024 }
     ensures text { line.new.items ≡ line.old.items ++ spaced value }
     ensures few { length line.new.items ≤ length line.old.items + 11 }
 {
-    let mut buffer = Buffer::new();
     push_text(line, b" ");
-    push_text(line, buffer.format(value).as_bytes());
+    push_small(line, value);
 }
 
 /// Appends numbers of 32 bits, and a space before each.
-pub(crate) fn push_values(line: &mut Line, values: &[u32])
+pub(crate) fn push_values(line: &mut LineBuffer, values: &[u32])
     requires { length line.old.items + 11 * length values.now ≤ 1024 }
     ensures text { line.new.items ≡ line.old.items ++ flat_map spaced values.now }
     ensures few { length line.new.items ≤ length line.old.items + 11 * length values.now }

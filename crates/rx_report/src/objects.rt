@@ -3,7 +3,8 @@ ghost use Rattle.std.specs.Prelude.{◌≡◌, ◌≤◌, ◌<◌, ◌+◌, ◌+
 ghost use Rattle.rx_set.specs.View.{object_row};
 ghost use Rattle.rx_report.specs.Lines.{kind_word, object_at, object_line};
 
-use crate::lines::{Line, push_field, push_text, push_values};
+use crate::buffers::{LineBuffer, push_text};
+use crate::lines::{Line, push_field, push_values};
 use rx_seq::{Kind, State};
 use rx_set::{Object, TaskSet};
 
@@ -16,7 +17,7 @@ pub(crate) fn object_at(set: &TaskSet, object: u32) -> &Object
 }
 
 /// Appends the word of a kind.
-fn push_kind(line: &mut Line, kind: Kind)
+fn push_kind(line: &mut LineBuffer, kind: Kind)
     requires { length line.old.items + 9 ≤ 1024 }
     ensures text { line.new.items ≡ line.old.items ++ kind_word kind }
     ensures few { length line.new.items ≤ length line.old.items + 9 }
@@ -38,13 +39,14 @@ pub fn object_line(set: &TaskSet, object: u32, tag: u64, state: &State, out: &mu
     ensures { out.new.items ≡ object_line set.now object tag state.now.items }
 {
     let shared = object_at(set, object);
-    out.clear();
-    push_text(out, b"object ");
-    push_text(out, shared.name.as_str().as_bytes());
-    push_text(out, b" ");
-    push_kind(out, shared.part.kind);
-    push_field(out, b" tag", tag);
-    push_text(out, b" state");
-    push_values(out, state.as_slice());
-    push_text(out, b"\n");
+    let mut line = LineBuffer::new();
+    push_text(&mut line, b"object ");
+    push_text(&mut line, shared.name.as_str().as_bytes());
+    push_text(&mut line, b" ");
+    push_kind(&mut line, shared.part.kind);
+    push_field(&mut line, b" tag", tag);
+    push_text(&mut line, b" state");
+    push_values(&mut line, state.as_slice());
+    push_text(&mut line, b"\n");
+    line.copy_to(out);
 }

@@ -2,11 +2,12 @@
 ghost use Rattle.std.specs.Prelude.{◌≡◌, ◌≤◌, ◌+◌, ◌++◌, length};
 ghost use Rattle.rx_report.specs.Lines.{reply_text};
 
-use crate::lines::{Line, push_field, push_text};
+use crate::buffers::{LineBuffer, push_text};
+use crate::lines::push_field;
 use rx_seq::Reply;
 
 /// Appends what a call answered: a word, and the number that some replies have.
-pub(crate) fn push_reply(line: &mut Line, reply: Reply)
+pub(crate) fn push_reply(line: &mut LineBuffer, reply: Reply)
     requires { length line.old.items + 28 ≤ 1024 }
     ensures text { line.new.items ≡ line.old.items ++ reply_text reply }
     ensures few { length line.new.items ≤ length line.old.items + 28 }
@@ -47,7 +48,7 @@ mod tests {
             (Reply::No, b"no"),
             (Reply::Short { v: 0 }, b"short 0"),
         ];
-        let mut line = Line::new();
+        let mut line = LineBuffer::new();
         for (reply, text) in cases {
             line.clear();
             push_reply(&mut line, reply);

@@ -3,12 +3,13 @@ ghost use Rattle.std.specs.Prelude.{◌≡◌, ◌≤◌, ◌+◌, ◌++◌, len
 ghost use Rattle.rx_report.specs.Lines.{spaced};
 ghost use Rattle.rx_report.specs.SpanLines.{edf_line, verdict_text, window_line};
 
-use crate::lines::{Line, push_field, push_spaced, push_text};
+use crate::buffers::{LineBuffer, push_text};
+use crate::lines::{Line, push_field, push_spaced};
 use itoa::Buffer;
 use rx_edf::EdfVerdict;
 
 /// Appends a text, a space and a number of 128 bits, which has at most 39 digits.
-fn push_wide(line: &mut Line, text: &[u8], n: u128)
+fn push_wide(line: &mut LineBuffer, text: &[u8], n: u128)
     requires { length line.old.items + length text.now + 40 ≤ 1024 }
     ensures text { line.new.items ≡ line.old.items ++ text.now ++ spaced n }
     ensures few { length line.new.items ≤ length line.old.items + length text.now + 40 }
@@ -20,7 +21,7 @@ fn push_wide(line: &mut Line, text: &[u8], n: u128)
 }
 
 /// Appends what the test answers, which is at most 90 bytes.
-fn push_verdict(line: &mut Line, verdict: &EdfVerdict)
+fn push_verdict(line: &mut LineBuffer, verdict: &EdfVerdict)
     requires { length line.old.items + 90 ≤ 1024 }
     ensures text { line.new.items ≡ line.old.items ++ verdict_text verdict.now }
     ensures few { length line.new.items ≤ length line.old.items + 90 }
@@ -42,10 +43,11 @@ fn push_verdict(line: &mut Line, verdict: &EdfVerdict)
 pub fn edf_line(verdict: &EdfVerdict, out: &mut Line)
     ensures { out.new.items ≡ edf_line verdict.now }
 {
-    out.clear();
-    push_text(out, b"test");
-    push_verdict(out, verdict);
-    push_text(out, b"\n");
+    let mut line = LineBuffer::new();
+    push_text(&mut line, b"test");
+    push_verdict(&mut line, verdict);
+    push_text(&mut line, b"\n");
+    line.copy_to(out);
 }
 
 /// Makes `out` the line of an interval, with its line feed: `window A B retries X preemptions Y`. What stood in `out` is
@@ -53,13 +55,14 @@ pub fn edf_line(verdict: &EdfVerdict, out: &mut Line)
 pub fn window_line(a: u64, b: u64, retries: u64, preemptions: u64, out: &mut Line)
     ensures { out.new.items ≡ window_line a b retries preemptions }
 {
-    out.clear();
-    push_text(out, b"window");
-    push_spaced(out, a);
-    push_spaced(out, b);
-    push_field(out, b" retries", retries);
-    push_field(out, b" preemptions", preemptions);
-    push_text(out, b"\n");
+    let mut line = LineBuffer::new();
+    push_text(&mut line, b"window");
+    push_spaced(&mut line, a);
+    push_spaced(&mut line, b);
+    push_field(&mut line, b" retries", retries);
+    push_field(&mut line, b" preemptions", preemptions);
+    push_text(&mut line, b"\n");
+    line.copy_to(out);
 }
 
 #[cfg(test)]

@@ -1,4 +1,5 @@
 // The lines of one set, which has a cell and registers.
+ghost use Rattle.rx_report.specs.Wordings.{IsWordingOf};
 ghost use Rattle.std.specs.Prelude.{◌≡◌, ◌<◌, length, IfOk};
 
 use super::*;
@@ -58,6 +59,52 @@ fn shared(alloc: Global) -> Result<TaskSet, Fail>
         vec![in alloc; task]?,
         Vec::new(alloc),
     ))
+}
+
+/// Whether the events have these lines, one after the other in one buffer.
+fn has_events(set: &TaskSet, wording: &Wording, cases: &[(Event, &[u8])]) -> bool
+    requires { IsWordingOf set.now wording.now }
+{
+    let mut buffer = LineBuffer::new();
+    for (event, text) in cases {
+        buffer.make_event(set, wording, event);
+        if buffer.as_slice() != *text {
+            return false;
+        }
+    }
+    true
+}
+
+/// Whether the end of a job at these times has these lines, one after the other in one buffer.
+fn has_times(set: &TaskSet, wording: &Wording, cases: &[(u64, &[u8])]) -> bool
+    requires { IsWordingOf set.now wording.now }
+{
+    let job = Job {
+        task: 0,
+        number: 10,
+    };
+    let mut buffer = LineBuffer::new();
+    for (at, text) in cases {
+        buffer.make_event(set, wording, &Event::Finish { at: *at, job });
+        if buffer.as_slice() != *text {
+            return false;
+        }
+    }
+    true
+}
+
+/// Whether the entries have these lines, one after the other in one buffer.
+fn has_entries(set: &TaskSet, wording: &Wording, cases: &[(Entry, &[u8])]) -> bool
+    requires { IsWordingOf set.now wording.now }
+{
+    let mut buffer = LineBuffer::new();
+    for (entry, text) in cases {
+        buffer.make_entry(set, wording, entry);
+        if buffer.as_slice() != *text {
+            return false;
+        }
+    }
+    true
 }
 
 #[test]
@@ -143,11 +190,44 @@ fn writes_events(rt: HostRuntime) -> Result<(), Fail> {
         ),
     ];
     let set = shared(rt.alloc())?;
+    let Ok(wording) = Wording::new(rt.alloc(), &set) else {
+        return Err("no memory".into());
+    };
+    assert!(rt; has_events(&set, &wording, &cases));
     let mut line = Line::new();
     for (event, text) in cases {
         event_line(&set, &event, &mut line);
         assert_eq!(rt; line.as_slice(), text);
     }
+    Ok(())
+}
+
+// Each time follows on another in the same buffer, which keeps the digits that the two share.
+#[test]
+fn counts_times_up(rt: HostRuntime) -> Result<(), Fail> {
+    let cases: [(u64, &[u8]); 16] = [
+        (0, b"0 finish a 10\n"),
+        (9, b"9 finish a 10\n"),
+        (9, b"9 finish a 10\n"),
+        (10, b"10 finish a 10\n"),
+        (9_999, b"9999 finish a 10\n"),
+        (10_000, b"10000 finish a 10\n"),
+        (10_001, b"10001 finish a 10\n"),
+        (19_999, b"19999 finish a 10\n"),
+        (20_000, b"20000 finish a 10\n"),
+        (20_007, b"20007 finish a 10\n"),
+        (10_007, b"10007 finish a 10\n"),
+        (99_999_999, b"99999999 finish a 10\n"),
+        (100_000_000, b"100000000 finish a 10\n"),
+        (1_000_000_000_000, b"1000000000000 finish a 10\n"),
+        (u64::MAX, b"18446744073709551615 finish a 10\n"),
+        (7, b"7 finish a 10\n"),
+    ];
+    let set = shared(rt.alloc())?;
+    let Ok(wording) = Wording::new(rt.alloc(), &set) else {
+        return Err("no memory".into());
+    };
+    assert!(rt; has_times(&set, &wording, &cases));
     Ok(())
 }
 
@@ -243,6 +323,10 @@ fn writes_entries(rt: HostRuntime) -> Result<(), Fail> {
         (told(1, 3, Reply::Empty, 2), b" 3 1  -> empty tag 2\n"),
     ];
     let set = shared(rt.alloc())?;
+    let Ok(wording) = Wording::new(rt.alloc(), &set) else {
+        return Err("no memory".into());
+    };
+    assert!(rt; has_entries(&set, &wording, &cases));
     let mut line = Line::new();
     for (entry, text) in cases {
         entry_line(&set, &entry, &mut line);

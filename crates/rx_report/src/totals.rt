@@ -2,7 +2,8 @@
 ghost use Rattle.std.specs.Prelude.{◌≡◌};
 ghost use Rattle.rx_report.specs.Lines.{total_line};
 
-use crate::lines::{Line, push_field, push_text};
+use crate::buffers::{LineBuffer, push_text};
+use crate::lines::{Line, push_field};
 use rx_ledger::Totals;
 
 /// Makes `out` the line of the totals, which ends a report:
@@ -11,16 +12,17 @@ use rx_ledger::Totals;
 pub fn total_line(totals: &Totals, out: &mut Line)
     ensures { out.new.items ≡ total_line totals.now }
 {
-    out.clear();
-    push_field(out, b"total ticks", totals.ticks);
-    push_field(out, b" idle", totals.idle);
-    push_field(out, b" released", totals.released);
-    push_field(out, b" finished", totals.finished);
-    push_field(out, b" replies", totals.replies);
-    push_field(out, b" retries", totals.retries);
-    push_field(out, b" preempted", totals.preempted);
-    push_field(out, b" missed", totals.missed);
-    push_text(out, b"\n");
+    let mut line = LineBuffer::new();
+    push_field(&mut line, b"total ticks", totals.ticks);
+    push_field(&mut line, b" idle", totals.idle);
+    push_field(&mut line, b" released", totals.released);
+    push_field(&mut line, b" finished", totals.finished);
+    push_field(&mut line, b" replies", totals.replies);
+    push_field(&mut line, b" retries", totals.retries);
+    push_field(&mut line, b" preempted", totals.preempted);
+    push_field(&mut line, b" missed", totals.missed);
+    push_text(&mut line, b"\n");
+    line.copy_to(out);
 }
 
 #[cfg(test)]

@@ -3,12 +3,13 @@ ghost use Rattle.std.specs.Prelude.{◌≡◌, ◌≤◌, ◌+◌, ◌++◌, len
 ghost use Rattle.rx_set.specs.View.{row_of};
 ghost use Rattle.rx_report.specs.VerdictLines.{fixed_line, rank_line, task_ranked, time_text, verdict_text};
 
-use crate::lines::{Line, push_field, push_text};
+use crate::buffers::{LineBuffer, push_text};
+use crate::lines::{Line, push_field};
 use rx_fixed::Verdict;
 use rx_set::{Task, TaskSet};
 
 /// Appends what the test answers, which is at most 33 bytes.
-fn push_verdict(line: &mut Line, verdict: &Verdict)
+fn push_verdict(line: &mut LineBuffer, verdict: &Verdict)
     requires { length line.old.items + 33 ≤ 1024 }
     ensures text { line.new.items ≡ line.old.items ++ verdict_text verdict.now }
     ensures few { length line.new.items ≤ length line.old.items + 33 }
@@ -25,9 +26,10 @@ fn push_verdict(line: &mut Line, verdict: &Verdict)
 pub fn fixed_line(verdict: &Verdict, out: &mut Line)
     ensures { out.new.items ≡ fixed_line verdict.now }
 {
-    out.clear();
-    push_verdict(out, verdict);
-    push_text(out, b"\n");
+    let mut line = LineBuffer::new();
+    push_verdict(&mut line, verdict);
+    push_text(&mut line, b"\n");
+    line.copy_to(out);
 }
 
 /// The task that has a rank.
@@ -39,7 +41,7 @@ fn task_ranked(set: &TaskSet, rank: u32) -> &Task
 }
 
 /// Appends the least time, or that there is none, which is at most 27 bytes.
-fn push_time(line: &mut Line, least: Option<u64>)
+fn push_time(line: &mut LineBuffer, least: Option<u64>)
     requires { length line.old.items + 27 ≤ 1024 }
     ensures text { line.new.items ≡ line.old.items ++ time_text least }
     ensures few { length line.new.items ≤ length line.old.items + 27 }
@@ -59,13 +61,14 @@ pub fn rank_line(set: &TaskSet, rank: u32, least: Option<u64>, out: &mut Line)
     ensures { out.new.items ≡ rank_line set.now rank least }
 {
     let task = task_ranked(set, rank);
-    out.clear();
-    push_field(out, b"rank", u64::from(rank));
-    push_text(out, b" ");
-    push_text(out, task.name.as_str().as_bytes());
-    push_time(out, least);
-    push_field(out, b" deadline", task.deadline);
-    push_text(out, b"\n");
+    let mut line = LineBuffer::new();
+    push_field(&mut line, b"rank", u64::from(rank));
+    push_text(&mut line, b" ");
+    push_text(&mut line, task.name.as_str().as_bytes());
+    push_time(&mut line, least);
+    push_field(&mut line, b" deadline", task.deadline);
+    push_text(&mut line, b"\n");
+    line.copy_to(out);
 }
 
 #[cfg(test)]
