@@ -2,6 +2,7 @@
 ghost use Rattle.std.specs.Prelude.{◌≡◌, ◌≤◌, [], ◌∷◌, ◌++◌, map, length, reverse};
 ghost use Rattle.rx_io.specs.States.{MayBeCalled};
 ghost use Rattle.rx_io.specs.Causes.{Puts};
+ghost use Rattle.rx_report.specs.Wordings.{IsWordingOf};
 ghost use Rattle.rx_report.specs.LaneLines.{calls_line, entry_line};
 ghost use Rattle.rx_set.specs.System.{parts_of};
 ghost use Rattle.rx_set.specs.Valid.{IsValid};
@@ -15,7 +16,7 @@ use crate::left::Left;
 use crate::stops::Stop;
 use rx_io::{Failed, Sink, Status, put};
 use rx_lanes::{Gate, Run, run_lanes};
-use rx_report::{Line, calls_line, entry_line, lanes_line};
+use rx_report::{Line, LineBuffer, Wording, calls_line, lanes_line};
 use rx_seq::Entry;
 use rx_set::TaskSet;
 use rx_table::Closed;
@@ -26,15 +27,17 @@ use std::thread::Threads;
 /// Hands in the line of each entry.
 fn put_entries<K: Sink>(
     set: &TaskSet,
+    wording: &Wording,
     entries: &[Entry],
-    line: &mut Line,
     sink: &mut K,
 ) -> Result<(), Failed>
     requires up { MayBeCalled (K.tells sink.old).failures }
+    requires wording { IsWordingOf set.now wording.now }
     ensures { Puts (K.tells sink.old) (K.tells sink.new) result (map (entry_line set.now) entries.now) }
 {
+    let mut line = LineBuffer::new();
     for entry in entries {
-        entry_line(set, entry, line);
+        line.make_entry(set, wording, entry);
         put(sink, line.as_slice())?;
     }
     Ok(())
@@ -62,6 +65,7 @@ fn put_end<K: Sink>(
 /// entries there are.
 fn put_history<K: Sink>(
     set: &TaskSet,
+    wording: &Wording,
     entries: &[Entry],
     closed: &Closed,
     line: &mut Line,
@@ -70,9 +74,10 @@ fn put_history<K: Sink>(
     requires up { MayBeCalled (K.tells sink.old).failures }
     requires layout { (closed.now.layout.parts ≡ parts_of set.now) × (closed.now.layout.first ≡ 0) }
     requires ends { HaveSameEnds (parts_of set.now) (reverse entries.now) closed.now.history }
+    requires wording { IsWordingOf set.now wording.now }
     ensures { Puts (K.tells sink.old) (K.tells sink.new) result (history_lines set.now (reverse entries.now)) }
 {
-    put_entries(set, entries, line, sink)?;
+    put_entries(set, wording, entries, sink)?;
     put_end(set, entries.len() as u64, closed, line, sink)
 }
 
@@ -80,6 +85,7 @@ fn put_history<K: Sink>(
 /// table, which are those after the entries. It takes no memory.
 fn write_lanes<K: Sink>(
     set: &TaskSet,
+    wording: &Wording,
     workers: u32,
     jobs: u32,
     entries: &[Entry],
@@ -89,12 +95,13 @@ fn write_lanes<K: Sink>(
     requires up { MayBeCalled (K.tells sink.old).failures }
     requires layout { (closed.now.layout.parts ≡ parts_of set.now) × (closed.now.layout.first ≡ 0) }
     requires ends { HaveSameEnds (parts_of set.now) (reverse entries.now) closed.now.history }
+    requires wording { IsWordingOf set.now wording.now }
     ensures { Puts (K.tells sink.old) (K.tells sink.new) result (lanes_report set.now workers jobs (reverse entries.now)) }
 {
     let mut line = Line::new();
     lanes_line(workers, jobs, &mut line);
     put(sink, line.as_slice())?;
-    put_history(set, entries, closed, &mut line, sink)
+    put_history(set, wording, entries, closed, &mut line, sink)
 }
 
 /// Has lanes make the operations of a set, tells what they made, and leaves their table.
@@ -115,12 +122,21 @@ pub(crate) fn share_set<R: Threads + Sync, K: Sink, G: Gate + Sync>(
     ensures { WritesOneAnswer (λ history. lanes_answer workers jobs history set.now)
         (K.tells sink.old) (K.tells sink.new) left.new result }
 {
+    let wording = Wording::new(alloc, set)?;
     let Run {
         lists: _,
         merged,
         closed,
     } = run_lanes(rt, alloc, set, workers, jobs, gate)?;
-    write_lanes(set, workers, jobs, merged.as_slice(), &closed, sink)?;
+    write_lanes(
+        set,
+        &wording,
+        workers,
+        jobs,
+        merged.as_slice(),
+        &closed,
+        sink,
+    )?;
     *left = Left::Closed { closed };
     Ok(Status::Done)
 }

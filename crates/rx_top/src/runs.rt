@@ -8,6 +8,7 @@ ghost use Rattle.rx_top.specs.Outcome.{WritesAnswer, run_answer};
 use crate::left::Left;
 use crate::stops::Stop;
 use rx_io::{Sink, Status};
+use rx_report::Wording;
 use rx_set::TaskSet;
 use rx_trace::{Ended, new_executive, write_run};
 use std::alloc::Global;
@@ -26,8 +27,9 @@ pub(crate) fn run_set<K: Sink>(
     requires nothing { left.old ≡ Nothing }
     ensures { WritesAnswer (run_answer ticks set.now) (K.tells sink.old) (K.tells sink.new) left.new result }
 {
+    let wording = Wording::new(alloc, set)?;
     let executive = new_executive(alloc, set)?;
-    let Ended { missed, bank } = write_run(set, executive, ticks, sink)?;
+    let Ended { missed, bank } = write_run(set, &wording, executive, ticks, sink)?;
     *left = Left::Bank { bank };
     Ok(if missed == 0 {
         Status::Done

@@ -9,6 +9,7 @@ ghost use Rattle.rx_tick.specs.Executive.{moment};
 ghost use Rattle.rx_slots.specs.Schedule.{slots, slot_at};
 ghost use Rattle.rx_slots.specs.Events.{events, events_of, misses};
 ghost use Rattle.rx_report.specs.Lines.{total_line};
+ghost use Rattle.rx_report.specs.Wordings.{IsWordingOf};
 ghost use Rattle.rx_trace.specs.Report.{report, schedule_lines, run_totals, reported_misses};
 ghost use Rattle.rx_trace.specs.RunBanks.{IsBankLeft};
 ghost use Rattle.rx_trace.specs.Runs.{lines_of, AreCounts, end_lines};
@@ -19,7 +20,7 @@ use arrayvec::ArrayVec;
 use rx_io::{Failed, Sink, put};
 use rx_ledger::{Event, Totals};
 use rx_port::Bank;
-use rx_report::{Line, event_line, total_line};
+use rx_report::{Line, LineBuffer, Wording, total_line};
 use rx_seq::NoMemory;
 use rx_set::TaskSet;
 use rx_shape::Layout;
@@ -30,20 +31,22 @@ use std::alloc::Global;
 /// Counts events, and hands in the line of each.
 fn put_events<K: Sink>(
     set: &TaskSet,
+    wording: &Wording,
     events: &[Event],
     totals: &mut Totals,
-    line: &mut Line,
+    line: &mut LineBuffer,
     sink: &mut K,
 ) -> Result<(), Failed>
     requires up { MayBeCalled (K.tells sink.old).failures }
     requires few { length events.now ≤ MOST_EVENTS }
     requires small { AreBelow (2 ^ 62) totals.old }
+    requires wording { IsWordingOf set.now wording.now }
     ensures puts { Puts (K.tells sink.old) (K.tells sink.new) result (lines_of set.now events.now) }
     ensures totals { OnOk result (totals.new ≡ fold counted totals.old events.now) }
 {
     for event in events {
         totals.count(event);
-        event_line(set, event, line);
+        line.make_event(set, wording, event);
         put(sink, line.as_slice())?;
     }
     Ok(())
@@ -65,16 +68,18 @@ pub fn put_totals<K: Sink>(totals: &Totals, line: &mut Line, sink: &mut K) -> Re
 /// Makes the next slot, counts it, and hands in the lines of its events.
 fn write_slot<K: Sink>(
     set: &TaskSet,
+    wording: &Wording,
     executive: &mut Executive,
     tick: &mut Tick,
     totals: &mut Totals,
-    line: &mut Line,
+    line: &mut LineBuffer,
     sink: &mut K,
 ) -> Result<(), Failed>
     requires up { MayBeCalled (K.tells sink.old).failures }
     requires system { executive.old.system ≡ set.now }
     requires time { executive.old.time < 1000000 }
     requires counts { AreCounts set.now executive.old.time totals.old }
+    requires wording { IsWordingOf set.now wording.now }
     ensures next { executive.new ≡ moment set.now (executive.old.time + 1) executive.new.bank }
     ensures puts { Puts (K.tells sink.old) (K.tells sink.new) result (lines_of set.now
         (events_of set.now (slots set.now executive.old.time) (slot_at set.now executive.old.time))) }
@@ -85,29 +90,31 @@ fn write_slot<K: Sink>(
     if tick.events.is_empty() {
         return Ok(());
     }
-    put_events(set, tick.events.as_slice(), totals, line, sink)
+    put_events(set, wording, tick.events.as_slice(), totals, line, sink)
 }
 
 /// Makes the slots before the last time, and hands in the lines of their events.
 fn write_slots<K: Sink>(
     set: &TaskSet,
+    wording: &Wording,
     executive: &mut Executive,
     ticks: u64,
     tick: &mut Tick,
     totals: &mut Totals,
-    line: &mut Line,
+    line: &mut LineBuffer,
     sink: &mut K,
 ) -> Result<(), Failed>
     requires up { MayBeCalled (K.tells sink.old).failures }
     requires ticks { ticks ≤ 1000000 }
     requires start { executive.old ≡ moment set.now 0 executive.old.bank }
     requires zeros { totals.old ≡ zeros }
+    requires wording { IsWordingOf set.now wording.now }
     ensures end { OnOk result (executive.new ≡ moment set.now ticks executive.new.bank) }
     ensures puts { Puts (K.tells sink.old) (K.tells sink.new) result (lines_of set.now (events set.now ticks)) }
     ensures counts { OnOk result (AreCounts set.now ticks totals.new) }
 {
     while executive.now() < ticks {
-        write_slot(set, executive, tick, totals, line, sink)?;
+        write_slot(set, wording, executive, tick, totals, line, sink)?;
     }
     Ok(())
 }
@@ -115,10 +122,12 @@ fn write_slots<K: Sink>(
 /// Hands in the lines of the last misses, of the objects and of the totals.
 fn write_end<K: Sink>(
     set: &TaskSet,
+    wording: &Wording,
     bank: &Bank,
     ticks: u64,
     late: &[Event],
     totals: &mut Totals,
+    buffer: &mut LineBuffer,
     line: &mut Line,
     sink: &mut K,
 ) -> Result<(), Failed>
@@ -128,10 +137,11 @@ fn write_end<K: Sink>(
     requires few { length late.now ≤ MOST_EVENTS }
     requires late { late.now ≡ misses set.now (slots set.now ticks) }
     requires counts { AreCounts set.now ticks totals.old }
+    requires wording { IsWordingOf set.now wording.now }
     ensures puts { Puts (K.tells sink.old) (K.tells sink.new) result (end_lines set.now ticks) }
     ensures totals { OnOk result (totals.new ≡ run_totals set.now ticks) }
 {
-    put_events(set, late, totals, line, sink)?;
+    put_events(set, wording, late, totals, buffer, sink)?;
     put_objects(set, bank, line, sink)?;
     put_totals(totals, line, sink)
 }
@@ -149,6 +159,7 @@ pub struct Ended {
 /// they tell, with the bank.
 fn write_schedule<K: Sink>(
     set: &TaskSet,
+    wording: &Wording,
     mut executive: Executive,
     ticks: u64,
     line: &mut Line,
@@ -157,19 +168,22 @@ fn write_schedule<K: Sink>(
     requires up { MayBeCalled (K.tells sink.old).failures }
     requires ticks { ticks ≤ 1000000 }
     requires start { executive ≡ moment set.now 0 executive.bank }
+    requires wording { IsWordingOf set.now wording.now }
     ensures puts { Puts (K.tells sink.old) (K.tells sink.new) result (schedule_lines set.now ticks) }
     ensures misses { IfOk result (λ ended. ended.missed ≡ reported_misses set.now ticks) }
     ensures bank { IfOk result (λ ended. IsBankLeft set.now ticks ended.bank) }
 {
     let mut tick = Tick::new();
     let mut totals = Totals::new();
+    let mut buffer = LineBuffer::new();
     write_slots(
         set,
+        wording,
         &mut executive,
         ticks,
         &mut tick,
         &mut totals,
-        line,
+        &mut buffer,
         sink,
     )?;
     executive.late(&mut tick);
@@ -177,10 +191,12 @@ fn write_schedule<K: Sink>(
     let bank = executive.into_bank();
     write_end(
         set,
+        wording,
         &bank,
         ticks,
         tick.events.as_slice(),
         &mut totals,
+        &mut buffer,
         line,
         sink,
     )?;
@@ -197,10 +213,11 @@ fn write_schedule<K: Sink>(
 /// A slot is one tick. Each line is handed in by a call of the sink of its own, and all that the sink left of it by
 /// another. At `Failed` the sink failed in this call, which is its last one, and a front of the report was taken; the bank
 /// is gone. It takes no memory, and the time of `put_test`, for each slot that of `Executive::tick` and of its lines, and
-/// that of `put_objects`. Wants an executive of this set before its first slot, as `new_executive` makes it, at most
-/// 1,000,000 ticks, and a sink whose latest call did not fail, with a count of faults below 2^63.
+/// that of `put_objects`. Wants a wording of this set, an executive of it before its first slot, as `new_executive` makes
+/// it, at most 1,000,000 ticks, and a sink whose latest call did not fail, with a count of faults below 2^63.
 pub fn write_run<K: Sink>(
     set: &TaskSet,
+    wording: &Wording,
     executive: Executive,
     ticks: u64,
     sink: &mut K,
@@ -208,13 +225,14 @@ pub fn write_run<K: Sink>(
     requires up { MayBeCalled (K.tells sink.old).failures }
     requires ticks { ticks ≤ 1000000 }
     requires start { executive ≡ moment set.now 0 executive.bank }
+    requires wording { IsWordingOf set.now wording.now }
     ensures puts { Puts (K.tells sink.old) (K.tells sink.new) result (report set.now ticks) }
     ensures misses { IfOk result (λ ended. ended.missed ≡ reported_misses set.now ticks) }
     ensures bank { IfOk result (λ ended. IsBankLeft set.now ticks ended.bank) }
 {
     let mut line = Line::new();
     put_test(set, &mut line, sink)?;
-    write_schedule(set, executive, ticks, &mut line, sink)
+    write_schedule(set, wording, executive, ticks, &mut line, sink)
 }
 
 /// The bank of a set before its first slot: its objects with the tag 0, and a seat for each task.

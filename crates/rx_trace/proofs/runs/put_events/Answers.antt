@@ -11,12 +11,12 @@ count-requires g c = small_so_far _ _ _ _ c.loop-event.invariant.totals c.requir
 pub returns-in_err-put-clause-puts : goal.returns-in_err-put-clause-puts
 returns-in_err-put-clause-puts g c =
     puts_cut _ _ _ _ _ _ _ _ c.from_residual.ensures.0 c.loop-event.invariant.taken
-    (rw (c.as_slice.ensures.value, c.event_line.ensures) at c.in_err-put.ensures)
+    (rw (c.as_slice.ensures.value, c.make_event.ensures) at c.in_err-put.ensures)
     (line_around (event_line c.args.set.now) c.args.events.now c.loop-event.event-index _ (omega arith))
 
 pub loop-event-preserved : goal.loop-event-preserved
 loop-event-preserved g c = record {
-  taken = takes_next _ _ _ _ _ _ c.loop-event.invariant.taken (rw (c.as_slice.ensures.value, c.event_line.ensures) at c.in_ok-put.ensures)
+  taken = takes_next _ _ _ _ _ _ c.loop-event.invariant.taken (rw (c.as_slice.ensures.value, c.make_event.ensures) at c.in_ok-put.ensures)
       (line_next (event_line c.args.set.now) c.args.events.now c.loop-event.event-index _ (omega arith));
   totals = counted_taken _ _ _ c.args.events.now c.loop-event.event-index _ c.loop-event.invariant.totals (omega arith) c.count.ensures;
 }
