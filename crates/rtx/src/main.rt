@@ -7,25 +7,23 @@
 #![tactic(auto)]
 
 ghost use Rattle.std.specs.Prelude.{◌≡◌, ◌≢◌, [], IfErr, IfOk};
-ghost use Rattle.std.specs.Io.Buffered.{writer_buffer, writer_contents};
 ghost use Rattle.std.specs.Io.KnownBytes.{Keeps};
 ghost use Rattle.std.specs.IoError.{error_kind};
 ghost use Rattle.std.specs.Process.{exit_status};
 ghost use Rattle.rx_io.specs.declared.status.Status.TheVariants.{WriteFault};
+ghost use Rattle.rx_io.specs.Pages.{page_contents};
+ghost use Rattle.rx_io.specs.States.{MayBeCalled, failures_of};
 ghost use Rattle.rx_io.specs.Statuses.{code_of};
 
-use rx_io::{InSource, OutSink, Status};
+use rx_io::{InSource, PageSink, Status};
 use rx_lanes::NoGate;
 use rx_top::{Left, top};
 use std::alloc::Global;
-use std::io::{BufWriter, ErrorKind, Write};
+use std::io::{ErrorKind, Write};
 use std::process::ExitCode;
 use std::rt::Env;
 use std::thread::Threads;
 use std::{env, io};
-
-// How many bytes of the output are gathered before they are handed to the system.
-const GATHERED: usize = 65_536;
 
 // The code where the system refuses the words for another cause than memory.
 const REFUSED: u8 = 11;
@@ -41,12 +39,13 @@ fn words(rt: &impl Env, alloc: Global) -> io::Result<Vec<String>> {
 
 /// Hands what is gathered to the system, and answers the status that it is given, or that this could not be done. Where
 /// that says that a write failed, nothing more is handed on.
-fn finish<W: Write + Drop>(status: Status, writer: &mut BufWriter<W>) -> Status
-    ensures done { result ≢ WriteFault → (result ≡ status) × (writer_buffer writer.new ≡ []) }
-    ensures kept { status ≡ WriteFault → writer.new ≡ writer.old }
-    ensures bytes { Keeps (writer_contents W.contents writer.old) (writer_contents W.contents writer.new) }
+fn finish<W: Write>(status: Status, sink: &mut PageSink<W>) -> Status
+    requires { status ≢ WriteFault → MayBeCalled (failures_of sink.old.down) }
+    ensures done { result ≢ WriteFault → (result ≡ status) × (sink.new.gathered ≡ []) }
+    ensures kept { status ≡ WriteFault → sink.new ≡ sink.old }
+    ensures bytes { Keeps (page_contents W.contents sink.old) (page_contents W.contents sink.new) }
 {
-    if status != Status::WriteFault && writer.flush().is_ok() {
+    if status != Status::WriteFault && sink.flush().is_ok() {
         return status;
     }
     Status::WriteFault
@@ -54,18 +53,15 @@ fn finish<W: Write + Drop>(status: Status, writer: &mut BufWriter<W>) -> Status
 
 /// Answers the words over standard input and standard output.
 fn answer(rt: &(impl Input + Print + Threads + Sync), alloc: Global, words: &[String]) -> Status {
-    let mut writer = match BufWriter::with_capacity(alloc, GATHERED, io::writer(rt)) {
-        Ok(writer) => writer,
+    let mut sink = match PageSink::new(alloc, io::writer(rt)) {
+        Ok(sink) => sink,
         Err(_) => return Status::NoMemory,
     };
     let mut source = InSource::new(rt.reader());
-    let mut sink = OutSink::new(&mut writer);
     let mut left = Left::Nothing;
     let status = top(rt, alloc, words, &mut source, &mut sink, &NoGate, &mut left);
-    let ended = finish(status, &mut writer);
     // What could not be handed on is let go.
-    let _let_go = writer.into_parts();
-    ended
+    finish(status, &mut sink)
 }
 
 /// The code that the program ends with: that of its status, 8 where there was no memory for its words, and 11 where the

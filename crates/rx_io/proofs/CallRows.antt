@@ -1,5 +1,5 @@
 -- What the definitions of calls say of a few lists of them, the latest call first.
-use Rattle.std.proofs.Common.{ℕ, ◌≡◌, List, [], ◌∷◌, refl, arith}
+use Rattle.std.proofs.Common.{ℕ, List, [], ◌∷◌, refl, arith}
 use Rattle.rx_io.specs.States.{Transfer}
 use Rattle.rx_io.specs.Causes.{ArePieces, AreSteps, EndRefused}
 

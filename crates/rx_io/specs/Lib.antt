@@ -2,4 +2,5 @@ pub mod States
 pub mod Causes
 pub mod Memory
 pub mod Adapters
+pub mod Pages
 pub mod Statuses
